@@ -24,15 +24,17 @@ fn fields_of(job: Job, placement: Placement, count: usize) -> Fields
     ensures { Listed (score_fields count (job_of job) (placement_of placement)
         (verdict (job_of job) (placement_of placement))) result }
 {
-    let v = verdict_of(job, placement);
-    let rule = v.rule;
-    let fields = Fields::empty();
-    let fields = fields.push(rule as i32);
-    let fields = fields.push(v.cell as i32);
-    if rule != 0 {
-        return push_numbers(fields, Numbers::zero(), count);
+    match verdict_of(job, placement) {
+        Some(breach) => {
+            let fields = Fields::empty().push(breach.rule as i32);
+            let fields = fields.push(breach.cell as i32);
+            push_numbers(fields, Numbers::zero(), count)
+        }
+        None => {
+            let fields = Fields::zeros(FIRST);
+            push_numbers(fields, numbers_of(job, placement), count)
+        }
     }
-    push_numbers(fields, numbers_of(job, placement), count)
 }
 
 // How many fields Score has, which are all 0 where it refuses.

@@ -1,6 +1,6 @@
 -- `op_score::fields_of` meets its contract: rule and cell, then the numbers, which are all 0 where a rule is broken.
 use Prim.Native.Nat.{◌^◌, ◌<◌}
-use mathlib.Core.Path.{◌≡◌, sym, ap, ◌∙◌}
+use mathlib.Core.Path.{◌≡◌, sym, ap, ap₂, ◌∙◌}
 use mathlib.Core.List.{List, [], ◌∷◌, ◌++◌}
 use native.Mathlib.Omega.{arith}
 use lib.ListN.{length, take, length-take}
@@ -11,7 +11,8 @@ use Rattle.definition.specs.Rules.{Verdict, verdict}
 use Rattle.job.specs.declared.Job.{Job}
 use Rattle.job.specs.declared.Placement.{Placement}
 use Rattle.job.specs.Ready.{Ready}
-use Rattle.score_verdict.specs.declared.Verdict as told
+use Rattle.std.specs.Prelude.{Some}
+use Rattle.score_verdict.specs.declared.Breach.{Breach}
 use Rattle.score_verdict.specs.Judged.{Judged}
 use Rattle.job.specs.Value.{job_of, placement_of}
 use Rattle.results.specs.Fields.{More, more-then}
@@ -21,7 +22,6 @@ use Rattle.score_verdict.specs.Rules.{rule_count}
 use Rattle.op_score.specs.Bounds.{VerdictSmall, verdict-small}
 use Rattle.op_score.specs.Fields.{broken-fields, legal-fields}
 use Rattle.op_score.proofs.fields_of.Goals as goal
-use Rattle.op_score.proofs.fields_of.Goals.{After-push-fields-2}
 
 -- the definition's verdict, which is of small numbers
 verdict-at : Job → Placement → Verdict
@@ -31,70 +31,66 @@ small : (job : Job) (P : Placement) → VerdictSmall rule_count (length (job_of 
 unfolding verdict-at
 small job P = verdict-small (job_of job) (placement_of P)
 
-module _ (job : Job) (P : Placement) {v : told.Verdict} (t : Judged (verdict (job_of job) (placement_of P)) v) where
-  same-rule : v.rule ≡ (verdict-at job P).rule
+module _ (job : Job) (P : Placement) {b : Breach} (t : Judged (verdict (job_of job) (placement_of P)) (Some b)) where
+  same-rule : b.rule ≡ (verdict-at job P).rule
   unfolding verdict-at
   same-rule = t.rule
 
-  same-cell : v.cell ≡ (verdict-at job P).cell
+  same-cell : b.cell ≡ (verdict-at job P).cell
   unfolding verdict-at
   same-cell = t.cell
 
-  rule-low : v.rule < 2 ^ 31
+  rule-low : b.rule < 2 ^ 31
   rule-low = omega (arith, same-rule, (small job P).rule)
 
-  cell-low : Ready job P → v.cell < 2 ^ 31
+  cell-low : Ready job P → b.cell < 2 ^ 31
   cell-low ready = omega (arith, same-cell, (small job P).cell, ready.accepted.sound.few)
 
-pub overflow_cast-rule : goal.overflow_cast-rule
-overflow_cast-rule c = record { sfits = omega (arith, rule-low c.args.job c.args.placement c.verdict_of-v.ensures) }
+pub overflow_cast-breach : goal.overflow_cast-breach
+overflow_cast-breach c = record { sfits = omega (arith, rule-low c.args.job c.args.placement c.in-Some.ensures) }
 
-pub overflow_cast-v : goal.overflow_cast-v
-overflow_cast-v c =
-    let v = c.verdict_of-v.ensures in
+pub overflow_cast-breach-in-Some : goal.overflow_cast-breach-in-Some
+overflow_cast-breach-in-Some c =
+    let v = c.in-Some.ensures in
     record { sfits = omega (arith, rule-low c.args.job c.args.placement v, cell-low c.args.job c.args.placement v c.requires.ready) }
 
--- rule and cell are pushed
-two : (c : After-push-fields-2)
-    → More c.empty-fields.result (pos (verdict-at c.args.job c.args.placement).rule ∷ pos (verdict-at c.args.job c.args.placement).cell ∷ []) c.push-fields-2.result
-two c =
-    let v = c.verdict_of-v.ensures in
+pub returns-in-Some : goal.returns-in-Some
+unfolding verdict-at
+returns-in-Some c =
+    let j = job_of c.args.job in
+    let P = placement_of c.args.placement in
+    let v = c.in-Some.ensures in
+    let two : More c.empty.result (pos (verdict-at c.args.job c.args.placement).rule ∷ pos (verdict-at c.args.job c.args.placement).cell ∷ []) c.push-fields-in-Some.result =
     rw (
       ← same-rule c.args.job c.args.placement v,
       ← same-cell c.args.job c.args.placement v,
       ← to_z_pos w32 (rule-low c.args.job c.args.placement v),
       ← to_z_pos w32 (cell-low c.args.job c.args.placement v c.requires.ready),
-    ) (more-then c.push-fields.ensures c.push-fields-2.ensures)
-
-pub returns-then-rule-ne0 : goal.returns-then-rule-ne0
-unfolding verdict-at
-returns-then-rule-ne0 c =
-    let j = job_of c.args.job in
-    let P = placement_of c.args.placement in
-    let all = more-then (two (goal.at-returns-then-rule-ne0 c).After-push-fields-2) c.push_numbers.ensures in
+    ) (more-then c.push-fields.ensures c.push-fields-in-Some.ensures) in
+    let all = more-then two c.push_numbers.ensures in
     let n = c.args.count in
     let fields : Numbers → List ℤ = λ x. pos (verdict j P).rule ∷ pos (verdict j P).cell ∷ take n (numbers_in x) in
     record {
       list =
           all.list
-          ∙ ap (λ (l : List ℤ). l ++ fields c.zero.result) c.empty-fields.ensures.list
+          ∙ ap (λ (l : List ℤ). l ++ fields c.zero.result) c.empty.ensures.list
           ∙ ap fields c.zero.ensures
-          ∙ broken-fields n j P (verdict j P) c.requires.many.seven (λ z. c.if-rule-ne0.true (same-rule c.args.job c.args.placement c.verdict_of-v.ensures ∙ z));
-      few = omega (arith, all.count, c.empty-fields.ensures.count, length-take c.args.count (numbers_in c.zero.result));
+          ∙ broken-fields n j P (verdict j P) c.requires.many.seven (λ z. omega (arith, v.broken, v.rule, z));
+      few = omega (arith, all.count, c.empty.ensures.count, length-take c.args.count (numbers_in c.zero.result));
     }
 
-pub returns : goal.returns
-unfolding verdict-at
-returns c =
+pub returns-in-None : goal.returns-in-None
+returns-in-None c =
     let j = job_of c.args.job in
     let P = placement_of c.args.placement in
+    let v = c.in-None.ensures in
     let n = c.numbers_of in
-    let all = more-then (two (goal.at-returns c).After-push-fields-2) c.push_numbers-2.ensures in
+    let all = c.push_numbers-in-None.ensures in
     record {
       list =
           all.list
-          ∙ ap (λ (l : List ℤ). l ++ (pos (verdict j P).rule ∷ pos (verdict j P).cell ∷ take c.args.count (numbers_in n.result)))
-          c.empty-fields.ensures.list
-          ∙ legal-fields c.args.count j P (verdict j P) n.result (sym (same-rule c.args.job c.args.placement c.verdict_of-v.ensures) ∙ c.if-rule-ne0.false) n.ensures;
-      few = omega (arith, all.count, c.empty-fields.ensures.count, length-take c.args.count (numbers_in n.result));
+          ∙ ap (λ (l : List ℤ). l ++ take c.args.count (numbers_in n.result)) c.zeros-fields.ensures.list
+          ∙ ap₂ (λ r k. pos r ∷ pos k ∷ take c.args.count (numbers_in n.result)) v.rule v.cell
+          ∙ legal-fields c.args.count j P (verdict j P) n.result (sym v.rule) n.ensures;
+      few = omega (arith, all.count, c.zeros-fields.ensures.count, length-take c.args.count (numbers_in n.result));
     }
