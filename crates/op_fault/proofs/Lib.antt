@@ -1,4 +1,3 @@
 pub mod Reports
-pub mod Told
 pub mod Lines
-pub mod Parts
+pub mod Laid

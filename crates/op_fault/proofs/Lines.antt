@@ -1,22 +1,15 @@
 -- Where the lines of a text begin and how long they are, going from one to the next.
 use Prim.Native.Nat.{ℕ, zero, suc, ◌+◌, ◌-◌, ◌≤◌}
-use mathlib.Core.Path.{◌≡◌, refl, ap, ◌∙◌}
+use mathlib.Core.Path.{◌≡◌, ap, ◌∙◌}
 use mathlib.Core.List.{List, [], ◌∷◌}
 use native.Mathlib.Omega.{arith}
 use native.Mathlib.Nat.{add-zero}
-use lib.ListN.{length, get_or, take, drop, length-take, length-drop, drop_of_length-le}
+use lib.ListN.{length, get_or, take, drop, drop_of_length-le}
 use lib.Seq.{drop-drop, get_or-drop}
 use Rattle.definition.specs.Lists.{sum}
 use Rattle.definition.specs.Texts.{Text, lines_of}
 use Rattle.definition.specs.FaultLine.{line_start, line_length}
-use Rattle.text_scan.specs.Line.{first_line}
-use Rattle.text_scan.specs.Found.{LineTo}
 use Rattle.op_fault.specs.Part.{NextLine, LineAt}
-
-pub some-line : (text : Text) (at r : ℕ) → LineTo text at r → NextLine text at r
-some-line text at r l =
-    let long : length (first_line (drop at text)) ≡ r - at = ap length l.line ∙ simp (length-take, length-drop) (omega (arith, l.within)) in
-    record { past = rw l.lines (omega (arith, l.past)); within = l.within; rest = rw l.lines }
 
 pub no_line : (text : Text) (at : ℕ) → at ≤ length text → length text ≤ at → NextLine text at at
 unfolding lines_of
@@ -37,9 +30,6 @@ pub record From (text : Text) (i at : ℕ) : Type 0 where
   pub within : at ≤ length text
   pub start : at ≡ line_start text i
   pub rest : lines_of (drop at text) ≡ drop (i - 1) (lines_of text)
-
-pub first : (text : Text) → From text 1 0
-first text = record { some = omega arith; within = omega arith; start = refl; rest = refl }
 
 module _ {text : Text} {i at r : ℕ} (f : From text i at) (l : NextLine text at r) where
   this : length (get_or (lines_of (drop at text)) 0 []) ≡ line_length text i

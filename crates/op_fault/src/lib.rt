@@ -2,52 +2,33 @@
 
 #![tactic(auto)]
 
-ghost use Rattle.std.specs.Prelude.{◌≡◌, ◌≤◌, ◌+◌, ◌<◌, length, cond, eqb};
+ghost use Rattle.std.specs.Prelude.{◌≡◌, ◌≤◌, ◌+◌, length};
 ghost use Rattle.definition.specs.Outcome.{over};
 ghost use Rattle.definition.specs.FaultLine.{fault_line, part_at, Very, ToldFault, CopiedFault};
-ghost use Rattle.op_fault.specs.Part.{PieceOf, NextLine, LineAt, part_of};
-ghost use Rattle.op_fault.specs.Fault.{ScoreRefuses, Reported};
+ghost use Rattle.op_fault.specs.Part.{PieceOf, NextLine, LineAt, part_of, text_in, number_of};
+ghost use Rattle.op_fault.specs.Fault.{Reported};
 
-use job_read::read_job;
-use placement_read::read_placement;
-use results::Refusal;
 use text_scan::line_end;
+use texts_read::read_texts;
 
-// A refusal by its number and line; both 0 for none.
-#[derive(Clone, Copy)]
-struct Report {
-    number: u32,
-    line: u32,
-}
-
-// What Score refuses: 1 to 4 as Read does, then 5.
-fn accepted(job: &[u8], placement: &[u8]) -> Result<(), Refusal>
-    ensures { ScoreRefuses job.now placement.now result }
-{
-    let j = read_job(job)?;
-    read_placement(placement, j.count)?;
-    Ok(())
-}
-
-fn reported(job: &[u8], placement: &[u8]) -> Report
+// Score's number and line: 1 to 4 as Read does, then 5; 0 and 0 if nothing is refused.
+fn reported(job: &[u8], placement: &[u8]) -> (u32, u32)
     ensures { Reported job.now placement.now result }
 {
-    match accepted(job, placement) {
-        Ok(()) => Report { number: 0, line: 0 },
-        Err(refusal) => Report {
-            number: refusal.number(),
-            line: refusal.line(),
-        },
+    match read_texts(job, placement) {
+        Ok(_) => (0, 0),
+        Err(refusal) => (refusal.number(), refusal.line()),
     }
 }
 
 // Where the line is that Score reports.
+#[tactic(auto, unfolding(definition::specs::FaultLine::fault_line))]
 pub fn fault_piece(job: &[u8], placement: &[u8]) -> Piece
     ensures { PieceOf (fault_line job.now placement.now)
         job.now placement.now result }
 {
-    let f = reported(job, placement);
-    part_at(f.number, f.line, job, placement)
+    let (number, line) = reported(job, placement);
+    part_at(number, line, job, placement)
 }
 
 // The line that Score reports.
@@ -58,39 +39,27 @@ pub fn fault_line<'a>(job: &'a [u8], placement: &'a [u8]) -> &'a [u8]
     very_part(job, placement, p)
 }
 
-// Three numbers, as far as the results reach.
-fn put_words(results: &mut [u64], words: [u64; 3])
-    ensures { results.new ≡ over words results.old }
+// Some entries over others, as far as those reach.
+fn lay<T: Copy>(from: &[T], to: &mut [T])
+    ensures { to.new ≡ over from.now to.old }
 {
-    for i in 0..3 {
-        if results.len() <= i {
-            return;
-        }
-        results[i] = words[i];
-    }
+    let n = from.len().min(to.len());
+    to[..n].copy_from_slice(&from[..n]);
 }
 
 // The line that Score reports by which text (0 job, 1 placement), first byte and length; the number of the refusal.
+#[tactic(auto, unfolding(definition::specs::FaultLine::fault_line))]
 pub fn tell_fault(job: &[u8], placement: &[u8], results: &mut [u64]) -> u32
     ensures { ToldFault job.now placement.now result
         results.old results.new }
 {
-    let f = reported(job, placement);
-    let p = part_at(f.number, f.line, job, placement);
-    put_words(results, [p.which as u64, p.start as u64, p.size as u64]);
-    f.number
-}
-
-// A line's bytes, as far as the output reaches.
-fn copy(line: &[u8], output: &mut [u8])
-    ensures { output.new ≡ over line.now output.old }
-{
-    for i in 0..line.len() {
-        if output.len() <= i {
-            return;
-        }
-        output[i] = line[i];
-    }
+    let (number, line) = reported(job, placement);
+    let p = part_at(number, line, job, placement);
+    lay(
+        &[p.which.number(), p.span.start as u64, p.span.size as u64],
+        results,
+    );
+    number
 }
 
 // What `tell_fault` tells, and the line itself, copied. One lifetime for both texts: the line may stand in either.
@@ -105,26 +74,43 @@ pub fn copy_fault<'a>(
 {
     let number = tell_fault(job, placement, part);
     let line = fault_line(job, placement);
-    copy(line, output);
+    lay(line, output);
     number
 }
 
 // Parts of a job text and a placement text: a line by its number, and a part as that very piece of the text lent.
 
 // The first byte of a part and how many it has.
-#[derive(Drop)]
+#[derive(Clone, Copy)]
 pub struct Span {
     pub start: usize,
     pub size: usize,
 }
 
-// A part of the job text (which 0) or of the placement text (1): numbers, as the host is told them, and as the clause of
-// very_part takes any.
-#[derive(Drop)]
+// One of the two texts.
+#[derive(Clone, Copy)]
+pub enum Which {
+    Job,
+    Placement,
+}
+
+// A part of one of them.
+#[derive(Clone, Copy)]
 pub struct Piece {
-    pub which: u32,
-    pub start: usize,
-    pub size: usize,
+    pub which: Which,
+    pub span: Span,
+}
+
+impl Which {
+    // As the host is told.
+    pub fn number(self) -> u64
+        ensures { result ≡ number_of self }
+    {
+        match self {
+            Which::Job => 0,
+            Which::Placement => 1,
+        }
+    }
 }
 
 // The byte after the line from `at` on; at the text's end there is none.
@@ -133,9 +119,10 @@ fn next_line(text: &[u8], at: usize) -> usize
     ensures { NextLine text.now at result }
 {
     if at < text.len() {
-        return line_end(text, at);
+        line_end(text, at)
+    } else {
+        at
     }
-    at
 }
 
 // Line n, counted from 1; a missing one is empty and at the text's end.
@@ -153,45 +140,41 @@ fn line_span(text: &[u8], n: u32) -> Span
     }
 }
 
-// Where the line is that a refusal reports: in the placement text for 5, else
-// in the job text; for 0 the placement's end.
+// Where the line is that a refusal reports: in the placement text for 5, else in the job text; for 0 the placement's
+// end. By numbers, of which its clause, which may not change, speaks.
+#[tactic(auto, unfolding(definition::specs::FaultLine::part_at))]
 pub fn part_at(number: u32, line: u32, job: &[u8], placement: &[u8]) -> Piece
     ensures { PieceOf (part_at number line job.now placement.now)
         job.now placement.now result }
 {
-    if number == 0 {
-        return Piece {
-            which: 1,
-            start: placement.len(),
-            size: 0,
-        };
-    }
-    if number == 5 {
-        let s = line_span(placement, line);
-        return Piece {
-            which: 1,
-            start: s.start,
-            size: s.size,
-        };
-    }
-    let s = line_span(job, line);
-    Piece {
-        which: 0,
-        start: s.start,
-        size: s.size,
+    match number {
+        0 => Piece {
+            which: Which::Placement,
+            span: Span {
+                start: placement.len(),
+                size: 0,
+            },
+        },
+        5 => Piece {
+            which: Which::Placement,
+            span: line_span(placement, line),
+        },
+        _ => Piece {
+            which: Which::Job,
+            span: line_span(job, line),
+        },
     }
 }
 
 // That very part.
 pub fn very_part<'a>(job: &'a [u8], placement: &'a [u8], p: Piece) -> &'a [u8]
-    requires { p.start + p.size ≤ length (cond (eqb p.which 0) job.now placement.now) }
+    requires { p.span.start + p.span.size ≤ length (text_in p.which job.now placement.now) }
     ensures { Very (part_of p) job.entry placement.entry result }
 {
-    let start = p.start;
-    if p.which == 0 {
-        let end = start + p.size;
-        return &job[start..end];
+    let start = p.span.start;
+    let size = p.span.size;
+    match p.which {
+        Which::Job => &job[start..start + size],
+        Which::Placement => &placement[start..start + size],
     }
-    let end = start + p.size;
-    &placement[start..end]
 }
