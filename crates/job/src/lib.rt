@@ -3,7 +3,7 @@
 #![tactic(auto)]
 
 ghost use Rattle.std.specs.Prelude.{◌≡◌, ◌≤◌, ◌<◌};
-ghost use Rattle.definition.specs.Rules.{apart, offer_of, choice_offered, site_offered};
+ghost use Rattle.definition.specs.Rules.{offer_of, choice_offered, site_offered};
 ghost use Rattle.job.specs.Value.{empty_job, empty_placement};
 ghost use Rattle.job.specs.Value.{header_of, cell_of, pose_of, offer_in, height_count};
 ghost use Rattle.job.specs.Parts.{stands_in, width_in, height_in, FirstHeight};
@@ -114,13 +114,6 @@ pub fn stands(of: u32, row: u32) -> bool
     ensures { result ≡ stands_in row of }
 {
     (of == 2) | (of == row)
-}
-
-// How far apart two numbers are.
-pub fn apart_of(a: u32, b: u32) -> u32
-    ensures { result ≡ apart a b }
-{
-    a.abs_diff(b)
 }
 
 // What rules 1 and 3 leave to a cell: how far from its given site it may stand, which layout numbers it may take,

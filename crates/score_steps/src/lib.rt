@@ -92,12 +92,7 @@ pub fn steps_in(job: Job, placement: Placement, stands: &[Stand], order: &[u32],
             cell: job.cells[b],
             pose: placement.poses[b],
         };
-        let steps = steps_of(
-            gap_between(stands[a].end, stands[b].site),
-            left,
-            right,
-            row,
-        );
+        let steps = steps_of(gap_between(stands[a].end, stands[b].site), left, right, row);
         touching += steps.touching;
         filled += steps.filled;
     }

@@ -75,7 +75,7 @@ impl Lone {
         let offer = job::offer_of(self.header, self.cell);
         let given = self.cell.given;
         let site = given + a / 4 - offer.limit;
-        let shift = times(self.header.shift, job::apart_of(site, given));
+        let shift = times(self.header.shift, site.abs_diff(given));
         let mirror = times(self.header.mirror, a % 2);
         let swap = times(self.header.swap, a % 4 / 2);
         shift + mirror + swap
