@@ -15,7 +15,8 @@ pub struct Layout {
     pub heights: [u32; 8],
 }
 
-// Row is 0, 1, or 2 for a tall cell; `layouts` is how many of the two are there. A fixed cell must not move.
+// Row is 0, 1, or 2 for a tall cell; `layouts` is how many of the two are there. A fixed cell must not move. Row and
+// layout are numbers: a text says any, and the clauses of stands, first_of, width_of and height_of speak of any.
 #[derive(Clone, Copy, Default)]
 pub struct Cell {
     pub fixed: bool,
@@ -41,7 +42,7 @@ pub struct Header {
     pub filled: u32,
 }
 
-// The first `count` cells are the job's, in file order.
+// The first `count` cells are the job's, in file order: an array with a count, as there is no heap.
 #[derive(Clone, Copy)]
 pub struct Job {
     pub header: Header,
@@ -82,7 +83,8 @@ impl Job {
     }
 }
 
-// Where a cell stands: its left site, its layout number and its mirror mark.
+// Where a cell stands: its left site, its layout number and its mirror mark, which are numbers since the clause of
+// offers_choice speaks of any.
 #[derive(Clone, Copy, Default)]
 pub struct Pose {
     pub site: u32,
@@ -90,7 +92,7 @@ pub struct Pose {
     pub mark: u32,
 }
 
-// The first `count` poses are the placement's, in file order.
+// The first `count` poses are the placement's, in file order: an array with a count, as there is no heap.
 #[derive(Clone, Copy)]
 pub struct Placement {
     pub count: usize,

@@ -149,6 +149,7 @@ fn read_cells(text: &[u8], from: usize, header: Header) -> Result<Job, Refusal>
     };
     let mut at = from;
     let mut line: u32 = 2;
+    // a `while`: it goes from line to line, and counts no index
     while at < text.len() {
         let l = match cell_line(text, at, t) {
             Ok(l) => l,

@@ -9,7 +9,7 @@ ghost use Rattle.reason_write.specs.Sentences.{next_named, SentenceRoom};
 
 use text_write::{put_bytes, put_number};
 
-// What a rule forbids, in words; a rule that there is not has none.
+// What a rule forbids, in words; a rule that there is not has none: a rule is a number, as the clause speaks of any.
 #[tactic(auto, unfolding(definition::specs::Texts::bytes))]
 fn phrase(rule: u32) -> &'static [u8]
     ensures { result.now ≡ phrase_of rule }

@@ -19,7 +19,7 @@ use score_order::{Stand, order_row};
 use score_row_rules::{mark_ends, mark_gaps, mark_places};
 use score_words::stands_of;
 
-// A broken rule and the lowest cell that breaks it; both count from 1.
+// A broken rule and the lowest cell that breaks it; both count from 1, and both are numbers that Score tells.
 #[derive(Clone, Copy)]
 pub struct Breach {
     pub rule: u32,

@@ -13,6 +13,7 @@ ghost use Rattle.search_lanes.specs.Store.{RowToCopy, StateToCopy, WordToPut};
 // with no test.
 pub const NONE: u32 = 268435456;
 
+// The lower of two costs.
 pub fn least(x: u32, y: u32) -> u32
     ensures { result ≡ min x y }
 {

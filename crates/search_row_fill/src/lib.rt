@@ -30,7 +30,7 @@ struct Lone {
 
 // ---- what a cell costs
 
-// A weight, so many times.
+// A weight, so many times: a function of its own for the bound that it promises.
 fn times(weight: u32, x: u32) -> u32
     requires { Weight weight x }
     ensures { Bounded (weight * x) 16000 result }

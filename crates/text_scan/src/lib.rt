@@ -23,7 +23,8 @@ pub struct Number {
     pub next: usize,
 }
 
-// The numbers of a line and where the next line begins. All are counted, and the first 24 kept.
+// The numbers of a line and where the next line begins. All are counted, and the first 24 kept: in an array, as there
+// is no heap.
 #[derive(Drop)]
 pub struct Numbers {
     pub count: usize,
@@ -103,6 +104,7 @@ pub fn read_numbers(text: &[u8], at: usize) -> Option<Numbers>
     let mut values = [0u32; 24];
     let mut count = 0;
     let mut next = at;
+    // a `loop`: it goes from field to field, and counts no index
     loop {
         let n = read_number(text, next)?;
         if count < 24 {
