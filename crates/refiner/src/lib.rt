@@ -16,8 +16,8 @@ use op_fault::{copy_fault, tell_fault};
 use op_load::load_text;
 use op_place::place_texts;
 use op_reasons::reasons_texts;
-use op_score::score_texts;
-use results::{answer_one, put_results, refuse};
+use op_score::{field_count, score_texts};
+use results::{answer, answer_one, refuse};
 
 // Read's fields: the cell count.
 const READ_FIELDS: usize = 1;
@@ -28,16 +28,13 @@ pub extern "C" fn refiner_read(job: &[u8], results: &mut [i32]) -> u32
     ensures told { Told (read job.now) result results.old results.new }
     ensures demand1 { Demand1 read_shape result (alone results.old) (alone results.new) }
 {
-    let r = read_job(job);
-    let refusal = r.refusal;
-    let number = refusal.number;
-    if number != 0 {
-        refuse(results, refusal, READ_FIELDS);
-        return number;
+    match read_job(job) {
+        Ok(job) => {
+            answer_one(results, job.count);
+            0
+        }
+        Err(refusal) => refuse(results, refusal, READ_FIELDS),
     }
-    let j = r.job;
-    answer_one(results, j.count);
-    0
 }
 
 // Score: number, line, rule, cell and the numbers go to the results, and the number is returned. There are six
@@ -49,11 +46,13 @@ pub extern "C" fn refiner_score(job: &[u8], placement: &[u8], results: &mut [i32
     ensures demand1 { Demand1 (score_shape (number_count job.now)) result
         (alone results.old) (alone results.new) }
 {
-    let s = score_texts(job, placement);
-    let refusal = s.refusal;
-    let fields = s.fields;
-    put_results(results, refusal, fields);
-    refusal.number
+    match score_texts(job, placement) {
+        Ok(fields) => {
+            answer(results, fields);
+            0
+        }
+        Err(refusal) => refuse(results, refusal, field_count(job)),
+    }
 }
 
 // Fault line for the host: which text (0 the job, 1 the placement), first byte and length of the line that Score

@@ -1,17 +1,17 @@
--- `refiner::refiner_score` meets its contract: what `score_texts` says, written to the results.
-use mathlib.Core.List.{List}
-use lib.IntN.{ℤ}
-use mathlib.Core.Path.{ap, ◌∙◌}
-use Rattle.definition.specs.Outcome.{score, Told, over}
+-- `refiner::refiner_score` meets its contract: the fields, or the refusal and as many zeros, written to the results.
+use Prim.Native.Nat.{◌≤◌}
+use native.Mathlib.Omega.{arith}
+use borrow.Author.Rules.{rules}
 use Rattle.demand_laws.specs.Demand1.{score_demand1}
+use Rattle.definition_laws.specs.Counts.{of-count}
 use Rattle.refiner.proofs.refiner_score.Goals as goal
 
-pub returns : goal.returns
-returns c =
-    let s = c.score_texts-s.ensures in
-    let told : Told (score c.args.job.now c.args.placement.now) c.score_texts-s.result.refusal.number c.args.results.now
-    c.put_results.new.results = record {
-      number = s.number;
-      array = c.put_results.ensures ∙ ap (λ (l : List ℤ). over l c.args.results.now) (rw (s.number, s.line, s.fields.list));
-    } in
-    record { told = told; demand1 = score_demand1 c.args.job.now c.args.placement.now told }
+pub refuse-requires : goal.refuse-requires
+refuse-requires c =
+    record { line = c.in-Err.ensures.line; few = omega (arith, of-count (λ n. n ≤ 7) (omega arith) (omega arith) c.args.job.now) }
+
+pub returns-in-Ok-clause-demand1 : goal.returns-in-Ok-clause-demand1
+returns-in-Ok-clause-demand1 c = score_demand1 c.args.job.now c.args.placement.now (search rules)
+
+pub returns-in-Err-clause-demand1 : goal.returns-in-Err-clause-demand1
+returns-in-Err-clause-demand1 c = score_demand1 c.args.job.now c.args.placement.now (search rules)
