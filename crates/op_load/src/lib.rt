@@ -9,7 +9,7 @@ ghost use Rattle.definition.specs.Outcome.{without_line, lent, Met};
 
 use job::Job;
 use load_write::put_load;
-use results::{Refusal, answer_one, refuse};
+use results::{Refusal, answer_one, refuse_by};
 
 // What is asked of the output.
 const ROOM: usize = 8192;
@@ -38,7 +38,7 @@ pub fn load_text(seed: u32, cells: u32, output: &mut [u8], results: &mut [i32]) 
         (lent [] output.new results.new) }
 {
     if let Err(refusal) = load_refusal(cells, output.len()) {
-        return refuse(results, refusal, FIELDS);
+        return refuse_by(results, refusal, FIELDS);
     }
     let length = put_load(output, seed, cells);
     answer_one(results, length);

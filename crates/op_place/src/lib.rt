@@ -15,7 +15,7 @@ ghost use Rattle.op_place.specs.Buffers.{ReadWithBuffers};
 use job::{Cell, Job, Placement, Pose};
 use job_read::read_job;
 use placement_write::put_placement;
-use results::{Fields, Refusal, answer, refuse};
+use results::{Fields, Refusal, answer, refuse_by};
 use score_numbers::{number_count, numbers_of, push_numbers};
 use search_job::{search_job, store_needed};
 
@@ -103,7 +103,7 @@ fn place_job(
             put_answer(job, count, poses, output, results);
             0
         }
-        None => refuse(results, Refusal::NoLegal, count + LENGTH),
+        None => refuse_by(results, Refusal::NoLegal, count + LENGTH),
     }
 }
 
@@ -132,6 +132,6 @@ pub fn place_texts(job: &[u8], store: &mut [u32], output: &mut [u8], results: &m
     let count = number_count(job);
     match read_with_buffers(job, store.len(), output.len()) {
         Ok(j) => place_job(j, count, store, output, results),
-        Err(refusal) => refuse(results, refusal, count + LENGTH),
+        Err(refusal) => refuse_by(results, refusal, count + LENGTH),
     }
 }

@@ -11,7 +11,7 @@ ghost use Rattle.op_reasons.specs.Answers.{ReasonRoom, ReadWithRoom};
 
 use job::{Job, Placement};
 use reason_write::put_sentence;
-use results::{Refusal, answer_one, refuse};
+use results::{Refusal, answer_one, refuse_by};
 use score_reason::reason_of;
 use texts_read::{Texts, read_texts};
 
@@ -54,6 +54,6 @@ pub fn reasons_texts(job: &[u8], placement: &[u8], output: &mut [u8], results: &
             answer_one(results, length);
             0
         }
-        Err(refusal) => refuse(results, refusal, FIELDS),
+        Err(refusal) => refuse_by(results, refusal, FIELDS),
     }
 }

@@ -17,7 +17,7 @@ use op_load::load_text;
 use op_place::place_texts;
 use op_reasons::reasons_texts;
 use op_score::{field_count, score_texts};
-use results::{answer, answer_one, refuse};
+use results::{answer, answer_one, refuse_by};
 
 // Read's fields: the cell count.
 const READ_FIELDS: usize = 1;
@@ -33,7 +33,7 @@ pub extern "C" fn refiner_read(job: &[u8], results: &mut [i32]) -> u32
             answer_one(results, job.count);
             0
         }
-        Err(refusal) => refuse(results, refusal, READ_FIELDS),
+        Err(refusal) => refuse_by(results, refusal, READ_FIELDS),
     }
 }
 
@@ -51,7 +51,7 @@ pub extern "C" fn refiner_score(job: &[u8], placement: &[u8], results: &mut [i32
             answer(results, fields);
             0
         }
-        Err(refusal) => refuse(results, refusal, field_count(job)),
+        Err(refusal) => refuse_by(results, refusal, field_count(job)),
     }
 }
 

@@ -64,7 +64,13 @@ pub record Writable (n l : ℕ) (f : Fields) : Type 0 where
   pub line : l < 2 ^ 31
   pub few : f.count ≤ max_fields
 
--- such a line, with so many fields of zero
-pub record Refusable (r : Refusal) (count : ℕ) : Type 0 where
+-- such a number and line, with so many fields of zero
+pub record Refusable (n l : ℕ) (count : ℕ) : Type 0 where
+  pub number : n < 2 ^ 31
+  pub line : l < 2 ^ 31
+  pub few : count ≤ max_fields
+
+-- a refusal at such a line, with so many fields of zero
+pub record ToRefuse (r : Refusal) (count : ℕ) : Type 0 where
   pub line : line_of r < 2 ^ 31
   pub few : count ≤ max_fields

@@ -6,7 +6,7 @@
 ghost use Rattle.std.specs.Prelude.{◌≡◌, [], ◌∷◌, ◌^◌, ◌≤◌, ◌<◌, replicate, pos};
 ghost use Rattle.definition.specs.Outcome.{over};
 ghost use Rattle.results.specs.Fields.{max_fields, list_of, FieldsOf, More};
-ghost use Rattle.results.specs.Refusals.{number_of, line_of, Writable, Refusable};
+ghost use Rattle.results.specs.Refusals.{number_of, line_of, Writable, Refusable, ToRefuse};
 
 // Why a call is refused. A number is the line at fault, counted from 1; the others are at no line.
 #[derive(Clone, Copy)]
@@ -130,15 +130,23 @@ pub fn put_results(results: &mut [i32], number: u32, line: u32, fields: Fields)
     }
 }
 
-// A refusal: its number and line, and so many fields of zero. Its number, for the caller to return.
-pub fn refuse(results: &mut [i32], refusal: Refusal, count: usize) -> u32
-    requires { Refusable refusal count }
+// A refusal: its number and line, and so many fields of zero.
+pub fn refuse(results: &mut [i32], number: u32, line: u32, count: usize)
+    requires { Refusable number line count }
+    ensures { results.new ≡ over (pos number ∷ pos line ∷ replicate count (pos 0)) results.old }
+{
+    put_results(results, number, line, Fields::zeros(count));
+}
+
+// The same of a kind of refusal. Its number, for the caller to return.
+pub fn refuse_by(results: &mut [i32], refusal: Refusal, count: usize) -> u32
+    requires { ToRefuse refusal count }
     ensures number { result ≡ number_of refusal }
     ensures array { results.new ≡ over (pos (number_of refusal) ∷ pos (line_of refusal)
         ∷ replicate count (pos 0)) results.old }
 {
     let number = refusal.number();
-    put_results(results, number, refusal.line(), Fields::zeros(count));
+    refuse(results, number, refusal.line(), count);
     number
 }
 

@@ -19,8 +19,8 @@ returns-in-Err c =
     met-refused text_field_count (refusal_of f)
     (load-refused c.args.seed c.args.cells (length c.args.output.now) (λ z. omega arith)
     ∙ ap (refused_by text_field_count) (sym e))
-    c.refuse.ensures.number
-    c.refuse.ensures.array
+    c.refuse_by.ensures.number
+    c.refuse_by.ensures.array
 
 pub put_load-length-requires : goal.put_load-length-requires
 put_load-length-requires c =

@@ -31,14 +31,14 @@ returns-in-Some c =
     (c.clear.ensures ∙ ap (λ n. replicate n 0) long)
     c.put_answer.ensures
 
-pub refuse-requires : goal.refuse-requires
-refuse-requires c = record { line = omega arith; few = omega (arith, c.requires.many.seven) }
+pub refuse_by-requires : goal.refuse_by-requires
+refuse_by-requires c = record { line = omega arith; few = omega (arith, c.requires.many.seven) }
 
 pub returns-in-None : goal.returns-in-None
 returns-in-None c =
     let long : length c.search_job-found.new.store ≡ length c.args.store.now = omega arith in
-    rw c.refuse.ensures.number
+    rw c.refuse_by.ensures.number
     (answered-none c.args.store.now c.args.output.now c.args.results.now c.args.count
     c.in-None.ensures
     (c.clear.ensures ∙ ap (λ n. replicate n 0) long)
-    c.refuse.ensures.array)
+    c.refuse_by.ensures.array)

@@ -23,11 +23,11 @@ returns-in-Ok c =
 pub overflow_add-count : goal.overflow_add-count
 overflow_add-count c = omega (arith, (many (goal.at-overflow_add-count c).After-number_count-count).seven)
 
-pub refuse-requires : goal.refuse-requires
-refuse-requires c =
-    record { line = c.in-Err.ensures.line; few = omega (arith, (many (goal.at-refuse-requires c).After-number_count-count).seven) }
+pub refuse_by-requires : goal.refuse_by-requires
+refuse_by-requires c =
+    record { line = c.in-Err.ensures.line; few = omega (arith, (many (goal.at-refuse_by-requires c).After-number_count-count).seven) }
 
 pub returns-in-Err : goal.returns-in-Err
 returns-in-Err c =
     placed-refused c.args.store.now c.args.output.now c.args.results.now c.args.job.now c.number_count-count.result
-    c.number_count-count.ensures c.in-Err.ensures c.refuse.ensures.number c.refuse.ensures.array
+    c.number_count-count.ensures c.in-Err.ensures c.refuse_by.ensures.number c.refuse_by.ensures.array

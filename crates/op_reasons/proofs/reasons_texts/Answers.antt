@@ -22,5 +22,5 @@ returns-in-Ok c =
 
 pub returns-in-Err : goal.returns-in-Err
 returns-in-Err c =
-    met-refused text_field_count (refusal_of c.in-Err.refusal) c.in-Err.ensures.outcome c.refuse.ensures.number
-    c.refuse.ensures.array
+    met-refused text_field_count (refusal_of c.in-Err.refusal) c.in-Err.ensures.outcome c.refuse_by.ensures.number
+    c.refuse_by.ensures.array

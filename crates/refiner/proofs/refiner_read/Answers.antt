@@ -32,8 +32,8 @@ returns-in-Err c =
     let r = c.in-Err.ensures in
     let some = (numbered c.in-Err.refusal).some in
     let e = read-refused c.args.job.now (reads-refused r) (λ z. omega arith) in
-    let told : Told (read c.args.job.now) c.refuse.result c.args.results.now c.refuse.new.results = record {
-      number = c.refuse.ensures.number ∙ ap (λ (o : Outcome). o.number) (sym e);
-      array = c.refuse.ensures.array ∙ ap (λ (o : Outcome). over (results_of o) c.args.results.now) (sym e);
+    let told : Told (read c.args.job.now) c.refuse_by.result c.args.results.now c.refuse_by.new.results = record {
+      number = c.refuse_by.ensures.number ∙ ap (λ (o : Outcome). o.number) (sym e);
+      array = c.refuse_by.ensures.array ∙ ap (λ (o : Outcome). over (results_of o) c.args.results.now) (sym e);
     } in
     record { told = told; demand1 = read_demand1 c.args.job.now told }

@@ -6,8 +6,8 @@ use Rattle.demand_laws.specs.Demand1.{score_demand1}
 use Rattle.definition_laws.specs.Counts.{of-count}
 use Rattle.refiner.proofs.refiner_score.Goals as goal
 
-pub refuse-requires : goal.refuse-requires
-refuse-requires c =
+pub refuse_by-requires : goal.refuse_by-requires
+refuse_by-requires c =
     record { line = c.in-Err.ensures.line; few = omega (arith, of-count (λ n. n ≤ 7) (omega arith) (omega arith) c.args.job.now) }
 
 pub returns-in-Ok-clause-demand1 : goal.returns-in-Ok-clause-demand1
