@@ -19,12 +19,12 @@ use texts_read::read_texts;
 const FIRST: usize = 2;
 
 // The fields of a placement: rule and cell, or 0, 0 and so many numbers.
-fn fields_of(job: Job, placement: Placement, count: usize) -> Fields
-    requires { ToScore job placement count }
-    ensures { Listed (score_fields count (job_of job) (placement_of placement)
-        (verdict (job_of job) (placement_of placement))) result }
+fn fields_of(job: &Job, placement: &Placement, count: usize) -> Fields
+    requires { ToScore job.now placement.now count }
+    ensures { Listed (score_fields count (job_of job.now) (placement_of placement.now)
+        (verdict (job_of job.now) (placement_of placement.now))) result }
 {
-    match verdict_of(job, placement) {
+    match verdict_of(*job, *placement) {
         Some(breach) => {
             let fields = Fields::empty().push(breach.rule as i32);
             let fields = fields.push(breach.cell as i32);
@@ -32,7 +32,7 @@ fn fields_of(job: Job, placement: Placement, count: usize) -> Fields
         }
         None => {
             let fields = Fields::zeros(FIRST);
-            push_numbers(fields, numbers_of(job, placement), count)
+            push_numbers(fields, numbers_of(*job, *placement), count)
         }
     }
 }
@@ -48,5 +48,5 @@ pub fn score_texts(job: &[u8], placement: &[u8]) -> Result<Fields, Refusal>
     ensures { Scores (score job.now placement.now) (score_field_count (number_count job.now)) result }
 {
     let texts = read_texts(job, placement)?;
-    Ok(fields_of(texts.job, texts.placement, number_count(job)))
+    Ok(fields_of(&texts.job, &texts.placement, number_count(job)))
 }

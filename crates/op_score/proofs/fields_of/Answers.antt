@@ -47,25 +47,25 @@ module _ (job : Job) (P : Placement) {b : Breach} (t : Judged (verdict (job_of j
   cell-low ready = omega (arith, same-cell, (small job P).cell, ready.accepted.sound.few)
 
 pub overflow_cast-breach : goal.overflow_cast-breach
-overflow_cast-breach c = record { sfits = omega (arith, rule-low c.args.job c.args.placement c.in-Some.ensures) }
+overflow_cast-breach c = record { sfits = omega (arith, rule-low c.args.job.now c.args.placement.now c.in-Some.ensures) }
 
 pub overflow_cast-breach-in-Some : goal.overflow_cast-breach-in-Some
 overflow_cast-breach-in-Some c =
     let v = c.in-Some.ensures in
-    record { sfits = omega (arith, rule-low c.args.job c.args.placement v, cell-low c.args.job c.args.placement v c.requires.ready) }
+    record { sfits = omega (arith, rule-low c.args.job.now c.args.placement.now v, cell-low c.args.job.now c.args.placement.now v c.requires.ready) }
 
 pub returns-in-Some : goal.returns-in-Some
 unfolding verdict-at
 returns-in-Some c =
-    let j = job_of c.args.job in
-    let P = placement_of c.args.placement in
+    let j = job_of c.args.job.now in
+    let P = placement_of c.args.placement.now in
     let v = c.in-Some.ensures in
-    let two : More c.empty.result (pos (verdict-at c.args.job c.args.placement).rule ∷ pos (verdict-at c.args.job c.args.placement).cell ∷ []) c.push-fields-in-Some.result =
+    let two : More c.empty.result (pos (verdict-at c.args.job.now c.args.placement.now).rule ∷ pos (verdict-at c.args.job.now c.args.placement.now).cell ∷ []) c.push-fields-in-Some.result =
     rw (
-      ← same-rule c.args.job c.args.placement v,
-      ← same-cell c.args.job c.args.placement v,
-      ← to_z_pos w32 (rule-low c.args.job c.args.placement v),
-      ← to_z_pos w32 (cell-low c.args.job c.args.placement v c.requires.ready),
+      ← same-rule c.args.job.now c.args.placement.now v,
+      ← same-cell c.args.job.now c.args.placement.now v,
+      ← to_z_pos w32 (rule-low c.args.job.now c.args.placement.now v),
+      ← to_z_pos w32 (cell-low c.args.job.now c.args.placement.now v c.requires.ready),
     ) (more-then c.push-fields.ensures c.push-fields-in-Some.ensures) in
     let all = more-then two c.push_numbers.ensures in
     let n = c.args.count in
@@ -81,8 +81,8 @@ returns-in-Some c =
 
 pub returns-in-None : goal.returns-in-None
 returns-in-None c =
-    let j = job_of c.args.job in
-    let P = placement_of c.args.placement in
+    let j = job_of c.args.job.now in
+    let P = placement_of c.args.placement.now in
     let v = c.in-None.ensures in
     let n = c.numbers_of in
     let all = c.push_numbers-in-None.ensures in
