@@ -130,6 +130,10 @@ pub record RunUp (old new : Buckets) : Type 0 where
 abbrev pub shared : ℕ → Buckets → Buckets
 shared needed b = record b { apart = cond (eqb needed 9) b.apart b.near }
 
+-- buckets 5 to 8 are looked up in these words
+abbrev pub with_apart : List ℕ → Buckets → Buckets
+with_apart apart b = record b { apart = apart }
+
 -- what the pose at site e in variant v finds, where `far` ran up
 abbrev pub found_by : Buckets → ℕ → ℕ → ℕ
 found_by b e v =

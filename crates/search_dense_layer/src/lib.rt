@@ -12,8 +12,9 @@ ghost use Rattle.search_row.specs.Words.{deck_in};
 ghost use Rattle.search_buckets.specs.Rows.{buckets_in, one_pose, by_poses, one_state, by_states};
 ghost use Rattle.search_dense_layer.specs.Thin.{variant_words, empty_buckets, thin_in, poses_at, four_of, spread_of};
 ghost use Rattle.search_dense_layer.specs.Thin.{FourSpread, ThinSpread, ThinGathered, FromPoses, FarBucket, RunUp};
-ghost use Rattle.search_dense_layer.specs.Thin.{shared, found_by, found_of, found_four, ThinLooks, ToFour, ToPut};
-ghost use Rattle.search_dense_layer.specs.Thin.{ThinGiven, ThinNext, ThinTarget, ThinGathering, ThinFrom, Put, Stepped};
+ghost use Rattle.search_dense_layer.specs.Thin.{shared, with_apart, found_by, found_of, found_four, ThinLooks};
+ghost use Rattle.search_dense_layer.specs.Thin.{ToFour, ToPut, ThinGiven, ThinNext, ThinTarget, ThinGathering};
+ghost use Rattle.search_dense_layer.specs.Thin.{ThinFrom, Put, Stepped};
 ghost use Rattle.search_dense_layer.specs.Kept.{Segment, SegmentKept};
 
 use search_buckets::Source;
@@ -189,59 +190,82 @@ impl Buckets {
         }
     }
 
-    // Where not all are needed, one weight serves for all gaps: the buckets of gap 0 do for the others.
-    fn share(&mut self, needed: usize)
-        ensures { self.new ≡ shared needed self.old }
+    // The words that are read for gaps 2 and 3. Where not all buckets are needed, one weight serves for all gaps:
+    // those of gap 0 do.
+    fn apart_or_near(&self, needed: usize) -> &[u32; VARIANT_WORDS]
+        ensures { with_apart result.now self.now ≡ shared needed self.now }
     {
-        if needed != 9 {
-            self.apart.copy_from_slice(&self.near);
-        }
+        if needed == 9 { &self.apart } else { &self.near }
     }
 
     // What the pose at site e in variant v finds: at gaps 0, 2 and 3, and further left.
-    fn found(&self, e: usize, v: usize) -> u32
-        requires { ThinLooks self.now e v }
-        ensures { result ≡ found_by self.now e v }
+    fn found(&self, apart: &[u32; VARIANT_WORDS], e: usize, v: usize) -> u32
+        requires { ThinLooks (with_apart apart.now self.now) e v }
+        ensures { result ≡ found_by (with_apart apart.now self.now) e v }
     {
-        let apart = search_lanes::lesser(self.apart[(e + 2) * 4 + v], self.apart[(e + 1) * 4 + v]);
+        let between = search_lanes::lesser(apart[(e + 2) * 4 + v], apart[(e + 1) * 4 + v]);
         search_lanes::lesser(
-            search_lanes::lesser(self.near[(e + 4) * 4 + v], apart),
+            search_lanes::lesser(self.near[(e + 4) * 4 + v], between),
             self.far[e],
         )
     }
 
     // What the four poses at site e of the cell at position k find, with the cell's own cost, capped.
     // A pose that is not offered comes out NONE.
-    fn found_four(&self, words: &mut [u32; 4], row: &[u32], k: usize, e: usize)
-        requires { ToFour self.now row.now words.old k e }
-        ensures { Written (found_four row.now self.now k e) 0 4 words.old words.new }
+    fn found_four(
+        &self,
+        words: &mut [u32; 4],
+        row: &[u32],
+        apart: &[u32; VARIANT_WORDS],
+        k: usize,
+        e: usize,
+    )
+        requires { ToFour (with_apart apart.now self.now) row.now words.old k e }
+        ensures { Written (found_four row.now (with_apart apart.now self.now) k e) 0 4 words.old words.new }
     {
         for v in 0..4 {
-            let x = row[k * search_row::CELL + (e * 4 + v)] + self.found(e, v);
+            let x = row[k * search_row::CELL + (e * 4 + v)] + self.found(apart, e, v);
             words[v] = search_lanes::lesser(x, search_lanes::NONE);
         }
     }
 }
 
 // They are written once all four are found, so that nothing written can be read again.
-fn put_four(store: &mut [u32], row: &[u32], buckets: &Buckets, to: usize, k: usize, e: usize)
-    requires { ToPut buckets.now row.now store.old to k (e * 4 + 4) }
-    ensures { Written (found_four row.now buckets.now k e) (to + e * 4) 4 store.old store.new }
+fn put_four(
+    store: &mut [u32],
+    row: &[u32],
+    buckets: &Buckets,
+    apart: &[u32; VARIANT_WORDS],
+    to: usize,
+    k: usize,
+    e: usize,
+)
+    requires { ToPut (with_apart apart.now buckets.now) row.now store.old to k (e * 4 + 4) }
+    ensures { Written (found_four row.now (with_apart apart.now buckets.now) k e) (to + e * 4) 4 store.old store.new }
 {
     let mut words = [0u32; 4];
-    buckets.found_four(&mut words, row, k, e);
+    buckets.found_four(&mut words, row, apart, k, e);
     for v in 0..4 {
         store[to + e * 4 + v] = words[v];
     }
 }
 
 // All poses of the cell at position k, four at a time.
-fn put(store: &mut [u32], row: &[u32], buckets: &Buckets, to: usize, k: usize, poses: usize)
-    requires { ToPut buckets.now row.now store.old to k poses }
-    ensures { Written (found_of row.now buckets.now k) to ((poses + 3) / 4 * 4) store.old store.new }
+fn put(
+    store: &mut [u32],
+    row: &[u32],
+    buckets: &Buckets,
+    apart: &[u32; VARIANT_WORDS],
+    to: usize,
+    k: usize,
+    poses: usize,
+)
+    requires { ToPut (with_apart apart.now buckets.now) row.now store.old to k poses }
+    ensures { Written (found_of row.now (with_apart apart.now buckets.now) k) to ((poses + 3) / 4 * 4) store.old
+        store.new }
 {
     for e in 0..poses.div_ceil(4) {
-        put_four(store, row, buckets, to, k, e);
+        put_four(store, row, buckets, apart, to, k, e);
     }
 }
 
@@ -258,9 +282,9 @@ fn target_there(store: &mut [u32], row: Row, layer: Block, q: usize)
     let mut buckets = Buckets::empty();
     buckets.gather(store, row, sought);
     buckets.run_up();
-    buckets.share(search_buckets::buckets_of(row.words, m));
+    let apart = buckets.apart_or_near(search_buckets::buckets_of(row.words, m));
     let to = layer.at + search_store::KEPT_LAYER + q * search_store::POSE_SLOTS;
-    put(store, row.words, &buckets, to, m, row.sizes.poses);
+    put(store, row.words, &buckets, apart, to, m, row.sizes.poses);
 }
 
 // The words of state q: all NONE if the row has no such cell.

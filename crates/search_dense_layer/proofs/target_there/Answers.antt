@@ -36,7 +36,8 @@ pub put-requires : goal.put-requires
 put-requires c =
     let g = c.requires.given in
     record {
-      arrays = lent_found c.empty-buckets.ensures c.gather.ensures c.run_up.ensures c.buckets_of.result c.share.ensures;
+      arrays = lent_found c.empty-buckets.ensures c.gather.ensures c.run_up.ensures c.buckets_of.result
+          c.apart_or_near-apart.ensures;
       words = g.grounded.words;
       low = g.low;
       room = omega (arith, g.room, c.requires.target.state, g.grounded.coded.few);
@@ -55,7 +56,7 @@ returns c =
     let m = here (goal.at-returns c).After-last_at-m in
     let found = found-there c.empty-buckets.ensures c.gather.ensures c.run_up.ensures
     (states-low row D z.reordering f i c.args.q z.states)
-    c.share.ensures (c.buckets_of.ensures ∙ ap (buckets_in row) m)
+    c.apart_or_near-apart.ensures (c.buckets_of.ensures ∙ ap (buckets_in row) m)
     (λ n v t h. states_twin row D z.reordering f i c.args.q z.states v t
     (buckets_twin row (last_at z.reordering (suc i) c.args.q) n) h) in
     put-words D z.reordering i c.args.layer.at c.args.q c.put.ensures (omega arith) (omega (arith, g.grounded.few))
