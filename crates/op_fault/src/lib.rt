@@ -44,7 +44,9 @@ fn lay<T: Copy>(from: &[T], to: &mut [T])
     ensures { to.new ≡ over from.now to.old }
 {
     let n = from.len().min(to.len());
-    to[..n].copy_from_slice(&from[..n]);
+    for i in 0..n {
+        to[i] = from[i];
+    }
 }
 
 // The line that Score reports by which text (0 job, 1 placement), first byte and length; the number of the refusal.
