@@ -169,7 +169,7 @@ pub fn part_at(number: u32, line: u32, job: &[u8], placement: &[u8]) -> Piece
 }
 
 // That very part.
-fn very_part<'a>(job: &'a [u8], placement: &'a [u8], p: Piece) -> &'a [u8]
+pub fn very_part<'a>(job: &'a [u8], placement: &'a [u8], p: Piece) -> &'a [u8]
     requires { p.span.start + p.span.size ≤ length (text_in p.which job.now placement.now) }
     ensures { Very (part_of p) job.entry placement.entry result }
 {
