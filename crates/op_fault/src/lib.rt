@@ -8,15 +8,20 @@ ghost use Rattle.definition.specs.FaultLine.{fault_line, part_at, Very, ToldFaul
 ghost use Rattle.op_fault.specs.Part.{PieceOf, NextLine, LineAt, part_of, text_in, number_of};
 ghost use Rattle.op_fault.specs.Fault.{Reported};
 
+use job_read::read_job;
+use placement_read::read_placement;
 use text_scan::line_end;
-use texts_read::read_texts;
 
-// Score's number and line: 1 to 4 as Read does, then 5; 0 and 0 if nothing is refused.
+// Score's number and line: 1 to 4 as Read does, then 5; 0 and 0 if nothing is refused. Neither job nor placement is
+// kept, which takes less of the stack than both together.
 fn reported(job: &[u8], placement: &[u8]) -> (u32, u32)
     ensures { Reported job.now placement.now result }
 {
-    match read_texts(job, placement) {
-        Ok(_) => (0, 0),
+    match read_job(job) {
+        Ok(job) => match read_placement(placement, job.count) {
+            Ok(_) => (0, 0),
+            Err(refusal) => (refusal.number(), refusal.line()),
+        },
         Err(refusal) => (refusal.number(), refusal.line()),
     }
 }
