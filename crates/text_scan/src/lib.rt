@@ -66,8 +66,7 @@ fn is_more(text: &[u8], from: usize, i: usize) -> bool
     requires inside { i < length text.now }
     ensures { IsTrue result ↔ MoreDigit text.now from i }
 {
-    let after_zero = from < i && text[from] == b'0';
-    text[i].is_ascii_digit() && i - from < 4 && !after_zero
+    text[i].is_ascii_digit() && i - from < 4 && !(i != from && text[from] == b'0')
 }
 
 // The number that begins at `from`, if a comma or a line feed ends it.
