@@ -10,6 +10,7 @@ use Rattle.definition.specs.Job.{refused, accepted, read_job, first_failing}
 use Rattle.definition.specs.Placement as text
 use Rattle.definition.specs.Placement.{text_of}
 use Rattle.definition.specs.Moves.{Cheapest}
+use Rattle.definition.specs.Outcome as told
 use Rattle.definition.specs.Outcome.{store_needed, output_needed, number_count}
 use Rattle.definition.specs.Outcome.{without_line, refused_by, over, place_field_count, place_answer, place_outcome}
 use Rattle.definition.specs.Outcome.{buffer_refusal, Buffers, lent, Placed}
@@ -103,44 +104,84 @@ module _ (store output : List ℕ) (results : List ℤ) where
         ≡ place_outcome (number_count source) (read_job source) (length store) (length output) a
     by-text a = ap (λ n. place_outcome n (read_job source) (length store) (length output) a) known
 
-    -- 1 to 4, 6 and 7
-    pub placed-refused : {r : Refusal} {returned : ℕ} {results' : List ℤ}
+    refused_as : (r : told.Refusal) {results' : List ℤ}
+        → ((j : paper.Job) → read_job source ≡ accepted j → buffer_refusal j (length store) (length output) ≡ 0 → ⊥)
+        → place_outcome count (read_job source) (length store) (length output) none ≡ refused_by (place_field_count count) r
+        → results' ≡ over (pos r.number ∷ pos r.line ∷ replicate (place_field_count count) (pos 0)) results
+        → Placed source r.number (lent store output results) (lent store output results')
+    unfolding over
+    refused_as r z e w = record {
+      outcome = refused_by (place_field_count count) r;
+      gives = record { answer = none; cheapest = λ j a b. absurd (z j a b); outcome = sym e ∙ by-text none };
+      met = record { told = record { number = refl; array = w }; written = refl; stored = refl };
+    }
+
+    -- 1 to 4
+    pub placed-refused : {n line : ℕ} {results' : List ℤ} → read_job source ≡ refused n line → (n ≡ 0 → ⊥)
+        → results' ≡ over (pos n ∷ pos line ∷ replicate (place_field_count count) (pos 0)) results
+        → Placed source n (lent store output results) (lent store output results')
+    placed-refused {n} {line} e d w = refused_as (record { number = n; line = line })
+        (λ j a b. let z : ◌≡◌ {A = ℕ} 0 1 = cc in omega arith)
+        (place-refused source e d count (length store) (length output) none)
+        w
+
+    -- 1 to 4, 6 and 7, by a kind of refusal
+    pub placed-refused-by : {r : Refusal} {returned : ℕ} {results' : List ℤ}
         → PlaceRefused source (length store) (length output) r → returned ≡ number_of r
         → results' ≡ over (pos (number_of r) ∷ pos (line_of r) ∷ replicate (place_field_count count) (pos 0)) results
         → Placed source returned (lent store output results) (lent store output results')
-    unfolding over
-    placed-refused {r} d n w = record {
-      outcome = refused_by (place_field_count count) (refusal_of r);
-      gives = record {
-        answer = none;
-        cheapest = λ j a b. absurd (d.none_taken j a b);
-        outcome = sym (d.outcome count) ∙ by-text none;
-      };
-      met = record { told = record { number = n; array = w }; written = refl; stored = refl };
-    }
+    placed-refused-by {r} d n w = rw n (refused_as (refusal_of r) d.none_taken (d.outcome count) w)
 
-    -- an answer
-    pub placed-answered : {job : Job} {returned : ℕ} {end : Buffers}
+    -- 6 and 7
+    module _ (j : paper.Job) (e : read_job source ≡ accepted j) where
+      placed-by-buffers : (n : ℕ) {results' : List ℤ} → buffer_refusal j (length store) (length output) ≡ n → (n ≡ 0 → ⊥)
+          → results' ≡ over (pos n ∷ pos 0 ∷ replicate (place_field_count count) (pos 0)) results
+          → Placed source n (lent store output results) (lent store output results')
+      placed-by-buffers n b d w =
+          refused_as (without_line n) (λ k a g. let q : k ≡ j = cc in d (sym b ∙ (rw q at g)))
+          (place-buffers source e count (length store) (length output) none (λ z. d (sym b ∙ z))
+          ∙ ap (λ (m : ℕ). refused_by (place_field_count count) (without_line m)) b) w
+
+      pub placed-small : {results' : List ℤ} → length store < store_needed j
+          → results' ≡ over (pos 6 ∷ pos 0 ∷ replicate (place_field_count count) (pos 0)) results
+          → Placed source 6 (lent store output results) (lent store output results')
+      unfolding buffer_refusal first_failing
+      placed-small h w = placed-by-buffers 6 (rw (lt-leb (store_needed j) (length store) h)) (λ z. omega arith) w
+
+      pub placed-narrow : {results' : List ℤ} → store_needed j ≤ length store → length output < output_needed j
+          → results' ≡ over (pos 7 ∷ pos 0 ∷ replicate (place_field_count count) (pos 0)) results
+          → Placed source 7 (lent store output results) (lent store output results')
+      unfolding buffer_refusal first_failing
+      placed-narrow h g w =
+          placed-by-buffers 7 (rw (le-leb (store_needed j) (length store) h, lt-leb (output_needed j) (length output) g))
+          (λ z. omega arith) w
+
+      -- an answer
+      pub placed-answered : {returned : ℕ} {end : Buffers} → store_needed j ≤ length store
+          → output_needed j ≤ length output
+          → Answered count j returned (lent store output results) end
+          → Placed source returned (lent store output results) end
+      unfolding buffer_refusal first_failing
+      placed-answered h g a = record {
+        outcome = place_answer count j a.answer;
+        gives = record {
+          answer = a.answer;
+          cheapest = λ k r b. let q : j ≡ k = cc in rw q at a.cheapest;
+          outcome = sym (place-accepted source e count (length store) (length output) a.answer enough)
+              ∙ by-text a.answer;
+        };
+        met = a.met;
+      }
+        where
+          enough : buffer_refusal j (length store) (length output) ≡ 0
+          enough = rw (le-leb (store_needed j) (length store) h, le-leb (output_needed j) (length output) g)
+
+    -- an answer to a job that was read, for which the buffers are enough
+    pub placed-answered-of : {job : Job} {returned : ℕ} {end : Buffers}
         → JobFits source (length store) (length output) job
         → Answered count (job_of job) returned (lent store output results) end
         → Placed source returned (lent store output results) end
-    unfolding buffer_refusal first_failing
-    placed-answered {job} f a = record {
-      outcome = place_answer count (job_of job) a.answer;
-      gives = record {
-        answer = a.answer;
-        cheapest = λ k r b. let q : job_of job ≡ k = accepted-same (sym f.read ∙ r) in rw q at a.cheapest;
-        outcome = sym (place-accepted source f.read count (length store) (length output) a.answer enough)
-            ∙ by-text a.answer;
-      };
-      met = a.met;
-    }
-      where
-        enough : buffer_refusal (job_of job) (length store) (length output) ≡ 0
-        enough = rw (
-          le-leb (store_needed (job_of job)) (length store) f.store,
-          le-leb (output_needed (job_of job)) (length output) f.output,
-        ) refl
+    placed-answered-of {job} f a = placed-answered (job_of job) f.read f.store f.output a
 
 -- ---- what refuses
 

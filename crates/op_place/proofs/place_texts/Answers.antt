@@ -2,7 +2,7 @@
 use mathlib.Core.Path.{◌≡◌}
 use native.Mathlib.Omega.{arith}
 use Rattle.score_numbers.specs.Counted.{SixOrSeven, count-known}
-use Rattle.op_place.specs.Answers.{placed-refused, placed-answered}
+use Rattle.op_place.specs.Answers.{placed-refused-by, placed-answered-of}
 use Rattle.op_place.proofs.place_texts.Goals as goal
 use Rattle.op_place.proofs.place_texts.Goals.{After-number_count-count}
 
@@ -17,7 +17,7 @@ place_job-requires c =
 
 pub returns-in-Ok : goal.returns-in-Ok
 returns-in-Ok c =
-    placed-answered c.args.store.now c.args.output.now c.args.results.now c.args.job.now c.number_count-count.result
+    placed-answered-of c.args.store.now c.args.output.now c.args.results.now c.args.job.now c.number_count-count.result
     c.number_count-count.ensures c.in-Ok.ensures c.place_job.ensures
 
 pub overflow_add-count : goal.overflow_add-count
@@ -29,5 +29,5 @@ refuse_by-requires c =
 
 pub returns-in-Err : goal.returns-in-Err
 returns-in-Err c =
-    placed-refused c.args.store.now c.args.output.now c.args.results.now c.args.job.now c.number_count-count.result
+    placed-refused-by c.args.store.now c.args.output.now c.args.results.now c.args.job.now c.number_count-count.result
     c.number_count-count.ensures c.in-Err.ensures c.refuse_by.ensures.number c.refuse_by.ensures.array
