@@ -5,7 +5,7 @@ use Rattle.definition.specs.Job.{max_cells}
 use Rattle.definition.specs.Placement as text
 use Rattle.definition.specs.Rules.{cell_at, site_at, end_at}
 use Rattle.score_order.specs.declared.Stand.{Stand}
-use Rattle.score_order.specs.Words.{site_in, end_in, row_in, given_in}
+use Rattle.score_order.specs.Words.{no_stand, stand_in, site_in, end_in, row_in, given_in}
 
 -- it is told how cell k stands
 pub record Shows (j : paper.Job) (P : text.Placement) (stands : List Stand) (k : ℕ) : Type 0 where
@@ -19,3 +19,7 @@ pub record Flat (j : paper.Job) (P : text.Placement) (stands : List Stand) : Typ
   pub few : length stands ≤ max_cells
   pub count : length j.cells ≡ length stands
   pub shows : (k : ℕ) → Shows j P stands k
+
+-- each entry from n on is the empty one
+abbrev pub EmptyFrom : ℕ → List Stand → Type 0
+EmptyFrom n stands = (k : ℕ) → n ≤ k → stand_in stands k ≡ no_stand

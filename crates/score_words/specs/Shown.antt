@@ -1,5 +1,5 @@
 -- A cell's entry shows how it stands: one that is there, and one that the job lacks.
-use Rattle.std.specs.Prelude.{ℕ, ◌+◌, ◌≤◌, ◌<◌, ◌≡◌, List, length}
+use Rattle.std.specs.Prelude.{ℕ, zero, suc, ◌+◌, ◌≤◌, ◌<◌, ◌≡◌, refl, List, length, replicate}
 use Rattle.std.proofs.Common.{sym, ap, ap₂, ◌∙◌}
 use Rattle.std.proofs.Math.ListN.{get_or-eq_default}
 use Rattle.definition.specs.Job as paper
@@ -14,6 +14,12 @@ use Rattle.job.specs.Cells.{cell-there, pose-there}
 use Rattle.score_order.specs.declared.Stand.{Stand}
 use Rattle.score_order.specs.Words.{no_stand, stand_in}
 use Rattle.score_words.specs.Flat.{Shows}
+
+-- an array of empty entries
+pub blank_at : {x : Stand} → x ≡ no_stand → (n i : ℕ) → stand_in (replicate n x) i ≡ no_stand
+blank_at e zero i = refl
+blank_at e (suc n) zero = e
+blank_at e (suc n) (suc i) = blank_at e n i
 
 -- how a cell stands that is there
 abbrev pub stand_at : Job → Placement → ℕ → Stand

@@ -5,7 +5,7 @@
 ghost use Rattle.std.specs.Prelude.{◌≡◌, ◌-◌, take};
 ghost use Rattle.job.specs.Value.{job_of, placement_of};
 ghost use Rattle.job.specs.Ready.{Ready};
-ghost use Rattle.score_words.specs.Flat.{Flat};
+ghost use Rattle.score_words.specs.Flat.{Flat, EmptyFrom};
 
 use job::{Job, Placement, width_of};
 use score_order::Stand;
@@ -17,10 +17,11 @@ pub fn gap_between(end: u32, site: u32) -> usize
     site.saturating_sub(end) as usize
 }
 
-// The first `count` are the job's cells.
+// The first `count` are the job's cells, the others are empty.
 pub fn stands_of(job: Job, placement: Placement) -> [Stand; Job::MAX_CELLS]
     requires { Ready job placement }
-    ensures { Flat (job_of job) (placement_of placement) (take job.count result) }
+    ensures flat { Flat (job_of job) (placement_of placement) (take job.count result) }
+    ensures empty { EmptyFrom job.count result }
 {
     let mut stands = [Stand::default(); Job::MAX_CELLS];
     for k in 0..job.count {

@@ -1,4 +1,5 @@
-use Rattle.std.proofs.Common.{ℕ, ◌<◌, ◌≡◌, List, length, length-set, set, take, leb, Bool, true, false, suc, ◌∙◌, below_more, arith, get_or-set_same, get_or-set_other, get_or-take, length-take-le}
+use Rattle.std.proofs.Common.{ℕ, ◌<◌, ◌≡◌, List, length, length-set, set, take, leb, Bool, true, false, suc, ◌∙◌, below_more, arith, get_or-set_same, get_or-set_other, get_or-take, length-take-le, refl}
+use Rattle.definition.specs.Job.{max_cells}
 use Rattle.definition.specs.Rules.{cell_at}
 use Rattle.job.specs.declared.Job.{Job}
 use Rattle.job.specs.declared.Placement.{Placement}
@@ -10,7 +11,7 @@ use Rattle.lists.specs.Compare.{Le?, low, high, le?}
 use Rattle.score_order.specs.declared.Stand.{Stand}
 use Rattle.score_order.specs.Words.{no_stand, stand_in}
 use Rattle.score_words.specs.Flat.{Shows}
-use Rattle.score_words.specs.Shown.{stand_at, shows-there, shows-none}
+use Rattle.score_words.specs.Shown.{blank_at, stand_at, shows-there, shows-none}
 use Rattle.score_words.proofs.stands_of.Goals as goal
 
 pub overflow_add-end : goal.overflow_add-end
@@ -21,6 +22,13 @@ overflow_add-end c =
     let q = c.requires.accepted.sound.cell k h in
     let w = λ (layout : ℕ). rw (cell-there job k (omega arith)) at (width_small (job_of job).header (cell_at (job_of job) k) layout q) in
     omega (arith, c.requires.site k (omega arith), c.width_of.ensures, w)
+
+pub loop-k-init : goal.loop-k-init
+loop-k-init c = record {
+  long = refl;
+  each = λ i h. absurd (omega arith);
+  rest = λ i h. blank_at (grind arith) max_cells i;
+}
 
 pub loop-k-preserved : goal.loop-k-preserved
 unfolding cell_of
@@ -36,6 +44,7 @@ loop-k-preserved c =
       each = below_more (λ i. stand_in (set s k x) i ≡ stand_at job P i) k
           (λ i h. get_or-set_other s k i x no_stand (λ e. omega arith) ∙ m.each i h)
           (get_or-set_same s k x no_stand (omega (arith, m.long)));
+      rest = λ i h. get_or-set_other s k i x no_stand (λ e. omega arith) ∙ m.rest i (omega arith);
     })
 
 -- all cells, and those that there are not
@@ -46,8 +55,8 @@ all job P r s e m k true (low h) = shows-there job P s k (omega arith) (omega (a
 all job P r s e m k false (high h) =
     shows-none (job_of job) (placement_of P) s k (omega arith) (cell_lacking job k (omega arith)) (pose_lacking P k (omega (arith, r.each)))
 
-pub returns : goal.returns
-returns c =
+pub returns-clause-flat : goal.returns-clause-flat
+returns-clause-flat c =
     let job : Job = c.args.job in
     let P : Placement = c.args.placement in
     let s : List Stand = take job.count c.loop-k.stands in
@@ -57,3 +66,6 @@ returns c =
       count = omega (arith, c.requires.accepted.many);
       shows = λ k. all job P c.requires s n (λ i h. get_or-take job.count c.loop-k.stands i no_stand h ∙ c.loop-k.invariant.each i (omega arith)) k (leb (suc k) job.count) (le? (suc k) job.count);
     }
+
+pub returns-clause-empty : goal.returns-clause-empty
+returns-clause-empty c = λ k h. c.loop-k.invariant.rest k (omega arith)
