@@ -1,11 +1,11 @@
 -- The signed sum of displacements, from how the cells stand, and drift from that sum.
-use Rattle.std.specs.Prelude.{ℕ, zero, suc, ◌≤◌, ◌<◌, ◌≡◌, refl, cond, List, length, eqb, ℤ, pos, nat_abs, ◌+ℤ◌, ◌-ℤ◌}
-use Rattle.std.proofs.Common.{sym, ap, ap₂, ◌∙◌}
+use Rattle.std.specs.Prelude.{ℕ, zero, suc, ◌*◌, ◌/◌, ◌%◌, ◌≤◌, ◌<◌, ◌^◌, ◌≡◌, refl, Bool, true, false, cond, List, length, ltb, eqb, ℤ, pos, nat_abs, ◌+ℤ◌, ◌-ℤ◌}
+use Rattle.std.proofs.Common.{sym, ap, ap₂, ◌∙◌, arith, div-le_self}
 use Rattle.definition.specs.Job.{max_cells, max_given}
 use Rattle.definition.specs.Lists.{from}
 use Rattle.definition.specs.Job as paper
 use Rattle.definition.specs.Placement as text
-use Rattle.definition.specs.Cost.{hundredths, total_shift, drift}
+use Rattle.definition.specs.Cost.{nearest, hundredths, total_shift, drift}
 use Rattle.score_order.specs.declared.Stand.{Stand}
 use Rattle.score_order.specs.Words.{site_in, given_in}
 use Rattle.score_words.specs.Flat.{Flat}
@@ -46,6 +46,19 @@ pub record Displaced (stands : List Stand) (r : ℤ) : Type 0 where
   pub total : r ≡ total_in stands 0 (length stands)
   pub small : nat_abs r ≤ 1000000
 
+-- a size in hundredths is not large: what is added to the whole part is at most 1
+either-small : (t : Bool) (x y : ℕ) → x ≤ 1 → y ≤ 1 → cond t x y ≤ 1
+either-small true x y p q = p
+either-small false x y p q = q
+
+pub hundredths-small : {d n : ℕ} → Average d n → nearest (100 * d) n < 2 ^ 31
+hundredths-small {d} {n} a =
+    let r : ℕ = 2 * (100 * d % n) in
+    let odd : ℕ = 100 * d / n % 2 in
+    let inner = either-small (eqb r n) odd 1 (omega arith) (omega arith) in
+    let added = either-small (ltb r n) 0 (cond (eqb r n) odd 1) (omega arith) inner in
+    omega (arith, a.small, div-le_self (100 * d) n, added)
+
 -- one more cell, and none
 pub total-more : (stands : List Stand) (i k n m : ℕ) → k ≡ suc i → n ≡ suc m
     → total_in stands i n ≡ (pos (site_in stands i) -ℤ pos (given_in stands i)) +ℤ total_in stands k m
@@ -59,7 +72,7 @@ total-none stands k n e = rw e
 -- ---- they are the definition's
 
 module _ {j : paper.Job} {P : text.Placement} {stands : List Stand} (f : Flat j P stands) where
-  flat-total : (k m : ℕ) → total_in stands k m ≡ total_shift j P (from k m)
+  pub flat-total : (k m : ℕ) → total_in stands k m ≡ total_shift j P (from k m)
   unfolding total_in total_shift
   flat-total k zero = refl
   flat-total k (suc m) =
