@@ -1,7 +1,8 @@
 -- The numbers of a placement as the program has them, and that they are the definition's.
-use Rattle.std.specs.Prelude.{ℕ, ◌+◌, ◌≤◌, ◌<◌, ◌^◌, ◌≡◌, List, [], ◌∷◌, ◌++◌, take, ℤ, pos}
-use Rattle.std.proofs.Common.{arith}
-use Rattle.definition.specs.Texts.{Text}
+use Rattle.std.specs.Prelude.{ℕ, ◌+◌, ◌≤◌, ◌<◌, ◌^◌, ◌≡◌, refl, Bool, false, ◌&&◌, cond, List, [], ◌∷◌, ◌++◌, length, get_or, take, eqb, ℤ, pos}
+use Rattle.std.proofs.Common.{sym, ap, arith}
+use Rattle.std.proofs.Math.Bool.{and-false}
+use Rattle.definition.specs.Texts.{Text, comma}
 use Rattle.definition.specs.Job.{filled_lead}
 use Rattle.definition.specs.Job as paper
 use Rattle.definition.specs.Placement as text
@@ -64,3 +65,14 @@ pub count-known : (job : Text) → SixOrSeven (number_count job)
 count-known job =
     of-count SixOrSeven (record { six = omega arith; seven = omega arith })
     (record { six = omega arith; seven = omega arith }) job
+
+pub by_bytes : (job : Text) (t : Bool) → (eqb (get_or job 0 0) filled_lead && eqb (get_or job 1 0) comma) ≡ t
+    → cond t 7 6 ≡ number_count job
+unfolding number_count
+by_bytes job t e = ap (λ t. cond t 7 6) (sym e)
+
+-- a text of one byte or none has no comma there
+pub short-six : (job : Text) → length job < 2 → 6 ≡ number_count job
+short-six [] h = by_bytes [] false refl
+short-six (b ∷ []) h = by_bytes (b ∷ []) false (and-false (eqb b filled_lead))
+short-six (b ∷ c ∷ l) h = absurd (omega arith)

@@ -1,7 +1,8 @@
 -- Sums over the cells from k on, with their laws for a loop that goes up, and how many cells pass a test of their pose.
-use Rattle.std.specs.Prelude.{ℕ, zero, suc, ◌+◌, ◌≤◌, ◌≡◌, refl, Bool, true, false, cond, List, [], ◌∷◌, map, length, get_or, count_by}
-use Rattle.std.proofs.Common.{sym, ap, ◌∙◌, arith}
+use Rattle.std.specs.Prelude.{ℕ, zero, suc, ◌+◌, ◌*◌, ◌≤◌, ◌≡◌, refl, Bool, true, false, cond, List, [], ◌∷◌, map, length, get_or, count_by}
+use Rattle.std.proofs.Common.{sym, ap, ◌∙◌, arith, mul-le-mul}
 use Rattle.std.proofs.lemmas.List.Sums.{sum_by-cons}
+use Rattle.definition.specs.Job.{max_weight}
 use Rattle.definition.specs.Lists.{from, keep, sum}
 use Rattle.definition.specs.Placement as text
 use Rattle.definition.specs.Rules.{no_pose, apart}
@@ -47,3 +48,7 @@ count-poses test none (p ∷ l) a (suc n) h f g =
         ≡ cond t 1 0 + count_by (λ p. test (pose_of p)) l
     go true e = omega arith
     go false e = omega arith
+
+-- a product of a weight and a bounded number
+pub weighed : (w x n : ℕ) → w ≤ max_weight → x ≤ n → w * x ≤ max_weight * n
+weighed w x n h g = mul-le-mul h g
