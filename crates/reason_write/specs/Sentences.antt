@@ -1,11 +1,11 @@
 -- A sentence in the parts that are written, one after another, and the room that its writers ask.
-use Rattle.std.specs.Prelude.{ℕ, ◌+◌, ◌≤◌, ◌<◌, ◌≡◌, Bool, cond, get_or, eqb}
+use Rattle.std.specs.Prelude.{ℕ, zero, suc, ◌+◌, ◌≤◌, ◌<◌, ◌≡◌, refl, Bool, cond, get_or, eqb}
 use Rattle.std.proofs.Common.{◌∙◌, arith, add-one, ne_eqb}
 use mathlib.Core.List.{List, [], ◌++◌, map, map-append}
-use Rattle.std.proofs.Math.ListN.{length, take, drop, length-map, take-append-drop}
+use Rattle.std.proofs.Math.ListN.{length, take, drop, length-map, take-append-drop, get_or-eq_default}
 use Rattle.std.proofs.Math.Seq.{take-suc, length-take-le}
 use Rattle.definition.specs.Texts.{Text, bytes}
-use Rattle.definition.specs.Reasons.{phrase_of, cell_named, cells_named, sentence}
+use Rattle.definition.specs.Reasons.{phrases, phrase_of, cell_named, cells_named, sentence}
 use Rattle.text_write.specs.Put.{Room, Wrote}
 use Rattle.text_write.specs.Puts.{wrote_none, then, rest}
 use Rattle.text_laws.specs.Parted.{parted-last, parted-within}
@@ -20,6 +20,15 @@ next_named first n = cond first [] (bytes ", ") ++ cell_named n
 pub record SentenceRoom (rule : ℕ) (cells : List ℕ) (count : ℕ) (output : List ℕ) : Type 0 where
   pub lent : count ≤ length cells
   pub room : Room (sentence (record { rule = rule; cells = take count cells })) output 0
+
+-- ---- the phrases
+
+-- rule 0 has none, nor has one past the last
+pub phrase_none : (rule : ℕ) → (1 ≤ rule → length phrases < rule) → phrase_of rule ≡ []
+phrase_none zero past = refl
+phrase_none (suc n) past =
+    let short : length phrases ≤ n = omega (arith, past (omega arith)) in
+    get_or-eq_default phrases [] short
 
 -- ---- the cells, one after another
 
@@ -66,6 +75,10 @@ abbrev pub broken : ℕ → List ℕ → Text
 broken rule cells = phrase_of rule ++ (bytes ": " ++ (cells_named cells ++ bytes "."))
 
 module _ (rule : ℕ) (cells : List ℕ) where
+  pub sentence-legal : rule ≡ 0 → sentence (record { rule = rule; cells = cells }) ≡ bytes "legal."
+  unfolding sentence
+  sentence-legal e = rw e
+
   pub sentence-broken : (rule ≡ 0 → ⊥) → sentence (record { rule = rule; cells = cells }) ≡ broken rule cells
   unfolding sentence
   sentence-broken ne = rw (ne_eqb rule 0 ne)
