@@ -4,7 +4,7 @@ use Rattle.std.specs.Prelude.{◌≡◌, List, Bool, ◌||◌, ◌∷◌, Option
 use Rattle.std.proofs.Math.Path.{refl, ap}
 use Rattle.std.proofs.Common.{sym, ap₂, ◌∙◌, add-one, length}
 use Rattle.std.specs.Option.{MatchOption, option_map}
-use Rattle.std.proofs.Math.Bool.{true, false, cond}
+use Rattle.std.proofs.Math.Bool.{true, false, cond, or-true}
 use native.Mathlib.Omega.{arith}
 use Rattle.std.proofs.Math.Decide.{ℕ_discrete}
 use Rattle.std.specs.List.{list_any, range_with_len, AllWithin, HoldsAt}
@@ -22,6 +22,14 @@ module _ (f : ℕ → Bool) where
   any_none a zero h = refl
   any_none a (suc n) h =
       rw (h a (omega arith) (omega arith)) (any_none (suc a) n (λ i g l. h i (omega arith) (omega arith)))
+
+  pub any_found : (a n i : ℕ) → a ≤ i → i < a + n → f i ≡ true → any f (from a n) ≡ true
+  any_found a zero i g l t = absurd (omega arith)
+  any_found a (suc n) i g l t = go (ℕ_discrete i a) (λ b. any_found (suc a) n i b (omega arith) t)
+    where
+      go : Dec (i ≡ a) → (suc a ≤ i → any f (from (suc a) n) ≡ true) → (f a || any f (from (suc a) n)) ≡ true
+      go (yes e) r = let q : f a ≡ true = ap f (sym e) ∙ t in rw q
+      go (no d) r = rw (r (omega arith)) (or-true (f a))
 
   -- the numbers of a range of the program
   pub any-range : (a n : ℕ) → list_any f (range_with_len a n) ≡ any f (from a n)
@@ -82,6 +90,14 @@ lowest-same f g a (suc n) h =
 
 -- one more cell in front of those from k on
 module _ (f : ℕ → Bool) (i k n m : ℕ) (e : k ≡ suc i) (q : n ≡ suc m) where
+  pub lowest-more : f i ≡ true → lowest f (from i n) ≡ suc i
+  unfolding lowest
+  lowest-more t = rw (q, t)
+
+  pub lowest-rest : f i ≡ false → lowest f (from i n) ≡ lowest f (from k m)
+  unfolding lowest
+  lowest-rest t = rw (q, t, e)
+
   pub keep-more : f i ≡ true → keep f (from i n) ≡ i ∷ keep f (from k m)
   keep-more t = rw (q, t, e)
 
