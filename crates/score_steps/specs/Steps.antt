@@ -1,7 +1,7 @@
 -- What the functions that count steps are given and answer, and the laws of the sum over the neighbours of a list.
-use Rattle.std.specs.Prelude.{ℕ, suc, ◌+◌, ◌*◌, ◌≤◌, ◌<◌, ◌≡◌, List, length, get_or, drop}
+use Rattle.std.specs.Prelude.{ℕ, suc, ◌+◌, ◌*◌, ◌≤◌, ◌<◌, ◌≡◌, refl, List, length, get_or, drop}
 use Rattle.std.proofs.Common.{arith, add-zero, drop-cons}
-use Rattle.lists.specs.Tails.{tail_cons}
+use Rattle.lists.specs.Tails.{tail_cons, tail-last}
 use Rattle.definition.specs.Job.{max_cells}
 use Rattle.definition.specs.Lists.{sum_next}
 use Rattle.definition.specs.Job as paper
@@ -61,6 +61,9 @@ differing-two c p d q row x y e f = rw (← e, ← f, add-zero x, add-zero y) (o
 -- ---- the sum over the neighbours of a list
 
 module _ (f : ℕ → ℕ → ℕ) (l : List ℕ) where
+  pub sum-last : (i : ℕ) → length l ≤ suc i → sum_next f (drop i l) ≡ 0
+  sum-last i h = tail-last (sum_next f) 0 refl (λ x. refl) l i h
+
   pub sum_more : (i n : ℕ) → n ≡ suc i → n < length l
       → sum_next f (drop i l) ≡ f (get_or l i 0) (get_or l n 0) + sum_next f (drop n l)
   sum_more i n e h = rw (tail_cons l i n 0 e (omega arith), drop-cons l n 0 h)
