@@ -1,5 +1,6 @@
 -- What both texts are read as: Score's refusal, or a job and a placement that may be scored.
 use Rattle.std.specs.Prelude.{ℕ, ◌^◌, ◌<◌, ◌≡◌, Result, Ok, Err, MatchResult, List, [], ◌∷◌, length}
+use Rattle.std.specs.Result.{result_map_both}
 use Rattle.std.proofs.Common.{sym, ◌∙◌, arith, ne_eqb}
 use Rattle.std.proofs.Math.Path.{ap}
 use Rattle.definition.specs.Texts.{Text}
@@ -83,6 +84,12 @@ module _ (jobText placementText : Text) where
       job = reads-accepted h;
       placement = due (read_whole q);
     }
+
+    -- by what the placement text is read as
+    pub by-placement : (r : Result placement.Placement Refusal) → ReadAs placementText j.count r
+        → TextsRead jobText placementText (result_map_both (λ p. record { job = j; placement = p }) (λ f. f) r)
+    by-placement (Ok p) q = by_both p q
+    by-placement (Err f) q = by_fault f q
 
 -- ---- an operation that refuses as Score does
 
