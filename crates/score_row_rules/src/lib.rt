@@ -42,7 +42,7 @@ pub fn mark_gaps(stands: &[Stand], order0: &[u32], order1: &[u32], marks: &mut [
 }
 
 // The first place of each cell in a list; the list's length for a cell that is not there.
-fn places_of(list: &[u32]) -> [u32; Job::MAX_CELLS]
+pub fn places_of(list: &[u32]) -> [u32; Job::MAX_CELLS]
     requires { Cells list.now }
     ensures { PlacesFrom 0 list.now result }
 {
