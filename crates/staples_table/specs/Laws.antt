@@ -28,7 +28,7 @@ rows_more {f} {at} {n} {m} {old} {mid} {new} h k s w =
 -- ---- block after block
 
 -- a block stays right while its words stay
-right_kept : (row₀ row₁ : List ℕ) (k : RowCounts) (p q : ℕ) {a b : ℕ} {old new : List ℕ} → k.limit ≤ 7
+pub right_kept : (row₀ row₁ : List ℕ) (k : RowCounts) (p q : ℕ) {a b : ℕ} {old new : List ℕ} → k.limit ≤ 7
     → Frame a b old new → (b ≤ block_at p q) ⊎ (block_at p q + block_words ≤ a) → BlockRight row₀ row₁ k p q old
     → BlockRight row₀ row₁ k p q new
 right_kept row₀ row₁ k p q d f apart r t u h i s m =
