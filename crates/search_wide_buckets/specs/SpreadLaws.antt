@@ -1,9 +1,9 @@
--- Laws of a source spread lane by lane.
-use Rattle.std.specs.Prelude.{ℕ, ◌+◌, ◌*◌, ◌≤◌, ◌<◌, min, ◌≡◌, ◌⊎◌, List}
+-- Laws of a source spread lane by lane, and of some buckets after the others.
+use Rattle.std.specs.Prelude.{ℕ, ◌+◌, ◌*◌, ◌≤◌, ◌<◌, min, ◌≡◌, ◌≢◌, ◌⊎◌, List}
 use Rattle.std.proofs.Common.{sym, ap, ap₂, ◌∙◌, ⊎_elim, inl, inr, arith}
 use Rattle.std.proofs.Math.Decide.{dec_lt}
 use Rattle.search_store.specs.Map.{bucket_rows, max_lanes}
-use Rattle.search_buckets.specs.Rows.{in_row}
+use Rattle.search_buckets.specs.Rows.{in_row, PaysLow}
 use Rattle.search_wide_buckets.specs.Table.{word_at, FiveOrNine, Spread}
 
 -- how many buckets there can be
@@ -12,6 +12,34 @@ five-least p = ⊎_elim (λ e. omega arith) (λ e. omega arith) p
 
 pub nine-most : {buckets : ℕ} → FiveOrNine buckets → buckets ≤ 9
 nine-most p = ⊎_elim (λ e. omega arith) (λ e. omega arith) p
+
+pub nine_else : {buckets : ℕ} → FiveOrNine buckets → buckets ≢ 5 → buckets ≡ 9
+nine_else p n = ⊎_elim (λ e. absurd (n e)) (λ e. e) p
+
+-- what is paid in fewer buckets
+pub pays-fewer : {buckets : ℕ} {pays : List ℕ} (fewer : ℕ) → PaysLow buckets pays → fewer ≤ buckets → PaysLow fewer pays
+pays-fewer fewer p h = record { long = p.long; low = λ j i c. p.low j i (omega arith) }
+
+-- some buckets, then those that follow
+pub spread_join :
+    {f : ℕ → ℕ → ℕ} {t least mid last first lanes : ℕ} {old on new : List ℕ}
+    → least ≤ mid → mid ≤ last → Spread f t least mid first lanes old on → Spread f t mid last first lanes on new
+    → Spread f t least last first lanes old new
+spread_join {f} {t} {least} {mid} {last} {first} {lanes} {old} {on} {new} p q s w =
+    record {
+      long = w.long ∙ s.long;
+      low = w.low;
+      done = λ j v r i a b k c. go j v r i a b k c (dec_lt v mid);
+      rest = λ j v r i a k. w.rest j v r i (⊎_elim (λ h. inl (omega arith)) (λ h. inr h) a) k
+          ∙ s.rest j v r i (⊎_elim (λ h. inl h) (λ h. inr (omega arith)) a) k;
+      other = λ l v r i a k. w.other l v r i a k ∙ s.other l v r i a k;
+    }
+  where
+    go : (j v r : ℕ) → j < lanes → least ≤ v → v < last → r < bucket_rows → v ≤ 8 * r → Dec (v < mid)
+        → word_at new (first + j) v r ≡ min (word_at old (first + j) v r) (in_row t r (f v j))
+    go j v r i a b k c (yes h) = w.rest j v r i (inl h) k ∙ s.done j v r i a h k c
+    go j v r i a b k c (no h) =
+        omega (arith, w.done j v r i (omega arith) b k c, s.rest j v r i (inr (omega arith)) k)
 
 -- one lane more
 pub spread-lane :

@@ -15,12 +15,13 @@ use Rattle.theory_pair.specs.Coded.{lowest, lowest-from}
 use Rattle.search_lanes.specs.Lanes.{words_from}
 use Rattle.search_lanes.specs.Store.{Frame, Low}
 use Rattle.search_lanes.specs.Laws.{same_low}
+use Rattle.search_buckets.specs.declared.Source.{Source}
 use Rattle.search_buckets.specs.Loops.{lowest-same, lowest_ext}
 use Rattle.search_buckets.specs.Gaps.{paying, paying-low}
 use Rattle.search_buckets.specs.Rows.{rows_of, in_row, bucket_in, found}
 use Rattle.search_buckets.specs.Laws.{row-hit, row-miss, found_none, found_ext}
 use Rattle.search_wide_buckets.specs.Table.{word_at, TableLent, Cleared, Gathered}
-use Rattle.search_wide_buckets.specs.Table.{Spread, RunUp, found_in, TableReady}
+use Rattle.search_wide_buckets.specs.Table.{Spread, WideSource, RunUp, found_in, TableReady, ToRows}
 
 -- ---- one row
 
@@ -174,6 +175,9 @@ run_more {lanes} {old} {mid} {new} t n g s w =
           lowest-from B (word_at old l 0) 0 (t + 1),
         )
 
+pub found-small : {table : List ℕ} (buckets a l : ℕ) → Low table → found_in buckets table a l ≤ B
+found-small buckets a l w = omega (arith, w.word (0 * bucket_words + a / 4 * max_lanes + l))
+
 -- ---- many sources
 
 -- no source, or none that lowers anything
@@ -208,6 +212,39 @@ pub gathered_ext :
     → Gathered Q rows buckets lanes old new
 gathered_ext p e =
     record { long = p.long; low = p.low; done = λ l v t i j k g. omega (arith, p.done l v t i j k g, e l v t i) }
+
+-- what a function was given holds on
+pub source-on :
+    {bucket : ℕ → ℕ → ℕ → ℕ} {table table' st row pays : List ℕ} {s : Source} {rows lanes : ℕ}
+    → WideSource table st row pays s lanes → Gathered bucket rows s.buckets lanes table table'
+    → WideSource table' st row pays s lanes
+source-on g w =
+    record {
+      words = g.words;
+      low = g.low;
+      table_low = w.low;
+      table_long = w.long ∙ g.table_long;
+      narrow = g.narrow;
+      room = g.room;
+      left = g.left;
+      right = g.right;
+      needed = g.needed;
+      paid = g.paid;
+    }
+
+pub rows_on : {st st' row table : List ℕ} {k buckets lanes : ℕ} → ToRows st row table k buckets lanes → Low st'
+    → ToRows st' row table k buckets lanes
+rows_on g w =
+    record {
+      words = g.words;
+      low = w;
+      table_low = g.table_low;
+      table_long = g.table_long;
+      narrow = g.narrow;
+      cell = g.cell;
+      least = g.least;
+      most = g.most;
+    }
 
 -- ---- from a table without sources
 
