@@ -60,7 +60,7 @@ unfolding lowest
 paying-min h l = omega arith
 
 -- the words that a pose looks up, where the arrays have the buckets
-found-words :
+pub found-words :
     (bucket : ℕ → ℕ → ℕ) (b : Buckets) (a : ℕ)
     → ((v t : ℕ) → bucket v t ≤ B)
     → ((v t : ℕ) → v < 4 → t < bucket_rows → get_or b.near (t * 4 + v) 0 ≡ bucket (1 + v) t)

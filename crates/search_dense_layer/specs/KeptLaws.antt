@@ -42,7 +42,7 @@ kept-none D R i {st} w =
     go (suc j) q a h = absurd (omega arith)
 
 module _ (D : Deck) (R i : ℕ) (some : 0 < i) (few : D.poses ≤ max_poses) (statesFew : state_count R ≤ 12) where
-  kept_more :
+  pub kept_more :
       {count from : ℕ} {old mid new : List ℕ} (j : ℕ)
       → i + (j + 1) ≤ max_kept → count ≡ state_count R → from ≡ kept_at (i + j) → SegmentKept D R i (i + j) old mid
       → Stepped D R count (i + j) from mid new
