@@ -10,7 +10,7 @@ use Rattle.theory_pair.specs.Coded.{lowest}
 use Rattle.theory_tables.specs.Lowest.{loop_member, loop_above}
 use Rattle.theory_tables.specs.Steps.{B, Deck, Layer, state_count, last_at, is_there, ends}
 use Rattle.search_back_segment.specs.declared.Place.{Place}
-use Rattle.search_back_segment.specs.Traces.{LeastOf, last_pays, last_of, EndFound}
+use Rattle.search_back_segment.specs.Traces.{LeastOf, LastFound, last_pays, last_of, EndFound}
 
 module _ (D : Deck) (R : ℕ) (f : Layer) where
   -- one of the words that the end is the least of
@@ -88,21 +88,30 @@ module _ (D : Deck) (R : ℕ) (f : Layer) where
         loop_member B (last_pays D R f q) D.poses b m.pose,
       )
 
-  -- the least of all of them is what ending costs
-  pub end-found : (count best : ℕ) (last : Option Place) → count ≡ state_count R → LeastOf D R f count 0 best last
-      → EndFound D R f last
-  end-found count best None e w =
-      omega (arith, w.met, above best w.capped (λ q b x y. w.states q b (omega arith) y))
-  end-found count best (Some p) e w =
-      let m = w.met in
-      let n = last-met p.state p.pose (omega (arith, m.2)) in
-      let least : best ≤ ends D R f = above best w.capped (λ q b x y. w.states q b (omega arith) y) in (
+  -- the least of their words is below what ending costs; that of a cell is it, and the cell's kept word is below B
+  module _ {count best : ℕ} (e : count ≡ state_count R) where
+    pub least-ends : {last : Option Place} → LeastOf D R f count 0 best last → best ≤ ends D R f
+    least-ends w = above best w.capped (λ q b x y. w.states q b (omega arith) y)
+
+    pub last_found : {p : Place} → LeastOf D R f count 0 best (Some p) → LastFound D R f p.state p.pose
+    last_found {p} w =
+        let m = w.met in
+        let n = last-met p.state p.pose (omega (arith, m.2)) in
         record {
           state = m.1;
           pose = n.pose;
           there = n.there;
           single = n.single;
-          word = omega (arith, member p.state p.pose m.1 n, n.word, m.2, least);
-        },
-        omega (arith, m.2, n.word),
-      )
+          word = omega (arith, member p.state p.pose m.1 n, n.word, m.2, least-ends w);
+        }
+
+    pub last-low : {p : Place} → LeastOf D R f count 0 best (Some p) → f p.state p.pose < B
+    last-low {p} w =
+        let m = w.met in
+        omega (arith, m.2, (last-met p.state p.pose (omega (arith, m.2))).word)
+
+  -- the least of all of them is what ending costs
+  pub end-found : (count best : ℕ) (last : Option Place) → count ≡ state_count R → LeastOf D R f count 0 best last
+      → EndFound D R f last
+  end-found count best None e w = omega (arith, w.met, least-ends e w)
+  end-found count best (Some p) e w = (last_found e w, last-low e w)
