@@ -20,9 +20,9 @@ use sums::{COMMON_WORDS, Join, SUM_FLAGS, SUM_WORDS, fill_commons, fill_sums};
 
 // The least of some costs, and a code of where it is.
 #[derive(Clone, Copy)]
-struct Best {
-    value: u32,
-    code: u32,
+pub struct Best {
+    pub value: u32,
+    pub code: u32,
 }
 
 // What the store says of a case without a way.
