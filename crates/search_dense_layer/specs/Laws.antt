@@ -7,13 +7,15 @@ use native.Mathlib.Omega.{arith}
 use Rattle.lists.specs.Compare.{Eq?, same, differs, eq?}
 use Rattle.theory_tables.specs.Steps.{B}
 use Rattle.search_store.specs.Map.{bucket_rows}
+use Rattle.search_lanes.specs.Lanes.{Lowered}
+use Rattle.search_lanes.specs.Store.{Low}
 use Rattle.search_lanes.specs.Laws.{lowered_to, lowered_ext, lowered_join, lowered_low}
 use Rattle.search_row.specs.Words.{word_of, filled_word, touching_word}
-use Rattle.search_buckets.specs.Rows.{end_row_of, buckets_in, pay_in, Pays, one_pose, pay_words}
+use Rattle.search_buckets.specs.Rows.{in_row, end_row_of, buckets_in, pay_in, Pays, one_pose, pay_words}
 use Rattle.search_buckets.specs.Laws.{pay-none}
 use Rattle.search_buckets.specs.Sources.{pose-pays}
 use Rattle.search_dense_layer.specs.declared.Buckets.{Buckets}
-use Rattle.search_dense_layer.specs.Thin.{ThinArrays, ThinGathered, spread_of, variant_words}
+use Rattle.search_dense_layer.specs.Thin.{ThinArrays, ThinGathered, four_of, spread_of, variant_words}
 
 -- ---- the buckets
 
@@ -21,6 +23,10 @@ use Rattle.search_dense_layer.specs.Thin.{ThinArrays, ThinGathered, spread_of, v
 pub apart_yes : (z : Bool) {n : ℕ} (x : ℕ) → Eq? n 9 z → n ≡ 9 → cond z x B ≡ x
 apart_yes true x (same e) h = refl
 apart_yes false x (differs d) h = absurd (d h)
+
+apart-no : (z : Bool) {n : ℕ} (x : ℕ) → Eq? n 9 z → n ≢ 9 → cond z x B ≡ B
+apart-no true x (same e) h = absurd (h e)
+apart-no false x (differs d) h = refl
 
 apart-same : (z : Bool) {n x y : ℕ} → Eq? n 9 z → (n ≡ 9 → x ≡ y) → cond z x B ≡ cond z y B
 apart-same true (same e) h = h e
@@ -55,6 +61,44 @@ module _ {needed : ℕ} {old new : Buckets} where
             (λ k p. apart-same (eqb needed 9) (eq? needed 9) (λ n. e (5 + k % 4) (k / 4) (omega arith)));
         far_to = lowered_ext g.far_to (λ k p. e 0 k (omega arith));
       }
+
+-- one source, in its row of all buckets that are needed
+module _ (t x u : ℕ) (pays : List ℕ) where
+  four : (n o : ℕ) (k : ℕ) → o ≡ u * 9 + n → spread_of t x pays u (n + k % 4) (k / 4) ≡ four_of t x pays o k
+  four n o k e = ap (λ (i : ℕ). in_row t (k / 4) (x + get_or pays i 0)) (omega arith)
+
+  one : (s : ℕ) → get_or pays (u * 9) 0 ≡ 0 → spread_of t x pays u 0 s ≡ in_row t s x
+  one s free =
+      let y : u * 9 + 0 ≡ u * 9 = omega arith in
+      let z : x + get_or pays (u * 9 + 0) 0 ≡ x = rw y (omega arith) in
+      ap (in_row t s) z
+
+  module _ {needed : ℕ} {old new : Buckets} (free : get_or pays (u * 9) 0 ≡ 0) where
+    pub spread-nine :
+        Lowered (four_of t x pays (u * 9 + 1)) variant_words old.near new.near
+        → Lowered (λ s. in_row t s x) bucket_rows old.far new.far
+        → needed ≡ 9 → Lowered (four_of t x pays (u * 9 + 5)) variant_words old.apart new.apart
+        → ThinGathered (spread_of t x pays u) needed old new
+    spread-nine v f n w =
+        record {
+          near_to = lowered_ext v (λ k p. four 1 (u * 9 + 1) k refl);
+          apart_to = lowered_ext w (λ k p. apart_yes (eqb needed 9)
+              (spread_of t x pays u (5 + k % 4) (k / 4)) (eq? needed 9) n ∙ four 5 (u * 9 + 5) k refl);
+          far_to = lowered_ext f (λ k p. one k free);
+        }
+
+    pub spread-five :
+        Lowered (four_of t x pays (u * 9 + 1)) variant_words old.near new.near
+        → Lowered (λ s. in_row t s x) bucket_rows old.far new.far
+        → needed ≢ 9 → Low old.apart → new.apart ≡ old.apart
+        → ThinGathered (spread_of t x pays u) needed old new
+    spread-five v f n w e =
+        record {
+          near_to = lowered_ext v (λ k p. four 1 (u * 9 + 1) k refl);
+          apart_to = rw e (lowered_to variant_words w (λ k p.
+              omega (arith, apart-no (eqb needed 9) (spread_of t x pays u (5 + k % 4) (k / 4)) (eq? needed 9) n)));
+          far_to = lowered_ext f (λ k p. one k free);
+        }
 
 -- no source, or none that lowers anything
 pub gathered_none :
