@@ -1,5 +1,4 @@
 -- A refusal before anything is written, or what the search of the accepted job comes to.
-use mathlib.Core.Path.{◌≡◌}
 use native.Mathlib.Omega.{arith}
 use Rattle.score_numbers.specs.Counted.{SixOrSeven, count-known}
 use Rattle.op_place.specs.Answers.{placed-refused-by, placed-answered-of}
