@@ -1,4 +1,4 @@
--- Invariant: it is told how the cells below k stand, and nothing of the others.
+-- Invariant: it is told how the cells below k stand, and the others are empty.
 use Rattle.std.proofs.Common.{◌≡◌, ℕ, ◌<◌, List, length}
 use Rattle.definition.specs.Job.{max_cells}
 use Rattle.job.specs.declared.Job.{Job}
