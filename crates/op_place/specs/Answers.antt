@@ -106,7 +106,8 @@ module _ (store output : List ℕ) (results : List ℤ) where
 
     refused_as : (r : told.Refusal) {results' : List ℤ}
         → ((j : paper.Job) → read_job source ≡ accepted j → buffer_refusal j (length store) (length output) ≡ 0 → ⊥)
-        → place_outcome count (read_job source) (length store) (length output) none ≡ refused_by (place_field_count count) r
+        → place_outcome count (read_job source) (length store) (length output) none
+        ≡ refused_by (place_field_count count) r
         → results' ≡ over (pos r.number ∷ pos r.line ∷ replicate (place_field_count count) (pos 0)) results
         → Placed source r.number (lent store output results) (lent store output results')
     unfolding over
@@ -134,7 +135,8 @@ module _ (store output : List ℕ) (results : List ℤ) where
 
     -- 6 and 7
     module _ (j : paper.Job) (e : read_job source ≡ accepted j) where
-      placed-by-buffers : (n : ℕ) {results' : List ℤ} → buffer_refusal j (length store) (length output) ≡ n → (n ≡ 0 → ⊥)
+      placed-by-buffers : (n : ℕ) {results' : List ℤ} → buffer_refusal j (length store) (length output) ≡ n
+          → (n ≡ 0 → ⊥)
           → results' ≡ over (pos n ∷ pos 0 ∷ replicate (place_field_count count) (pos 0)) results
           → Placed source n (lent store output results) (lent store output results')
       placed-by-buffers n b d w =
@@ -153,7 +155,8 @@ module _ (store output : List ℕ) (results : List ℤ) where
           → Placed source 7 (lent store output results) (lent store output results')
       unfolding buffer_refusal first_failing
       placed-narrow h g w =
-          placed-by-buffers 7 (rw (le-leb (store_needed j) (length store) h, lt-leb (output_needed j) (length output) g))
+          placed-by-buffers 7
+          (rw (le-leb (store_needed j) (length store) h, lt-leb (output_needed j) (length output) g))
           (λ z. omega arith) w
 
       -- an answer

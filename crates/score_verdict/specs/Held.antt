@@ -79,7 +79,8 @@ module _ {j : paper.Job} {P : text.Placement} {rule : ℕ} {f : ℕ → Bool} {l
     })
 
 -- past the last rule
-pub all_held : {j : paper.Job} {P : text.Placement} {rule : ℕ} {m : List Bool} → Held j P rule [] m → VerdictMarked j P None m
+pub all_held : {j : paper.Job} {P : text.Placement} {rule : ℕ} {m : List Bool} → Held j P rule [] m
+    → VerdictMarked j P None m
 unfolding first_broken
 all_held h = record {
   judged = record {

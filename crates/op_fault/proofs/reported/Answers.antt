@@ -13,4 +13,6 @@ returns-in-Err-read_placement c =
     (by-refusal (by_fault c.args.job.now c.args.placement.now c.in-Ok.job c.in-Ok.ensures c.in-Err-read_placement.refusal c.in-Err-read_placement.ensures))
 
 pub returns-in-Err : goal.returns-in-Err
-returns-in-Err c = rw (c.number-in-Err.ensures, c.line-in-Err.ensures) (by-refusal (by_job c.args.job.now c.args.placement.now c.in-Err.refusal c.in-Err.ensures))
+returns-in-Err c =
+    rw (c.number-in-Err.ensures, c.line-in-Err.ensures)
+    (by-refusal (by_job c.args.job.now c.args.placement.now c.in-Err.refusal c.in-Err.ensures))
